@@ -1,0 +1,16 @@
+-- What P1 to P10 never run, as a second table under the same statement.
+use mathlib.Core.Path.{refl}
+use mathlib.Core.List.{List, [], _∷_, _++_}
+use Rattle.model.specs.Worked.{Worked, Right, outcomes, claims, outcomeOf}
+use Rattle.model.specs.SearchSchedules.{searchSchedules}
+use Rattle.model.specs.InsertSchedules.{insertSchedules}
+use Rattle.model.specs.DeleteSchedules.{deleteSchedules}
+use Rattle.model.specs.HelpSchedules.{helpSchedules}
+use Rattle.model.specs.EdgeSchedules.{edgeSchedules}
+
+pub secondTable : List Worked
+secondTable = searchSchedules ++ insertSchedules ++ deleteSchedules ++ helpSchedules ++ edgeSchedules
+
+pub second-table-right : Right secondTable
+unfolding outcomes claims outcomeOf secondTable searchSchedules insertSchedules deleteSchedules helpSchedules edgeSchedules
+second-table-right = refl

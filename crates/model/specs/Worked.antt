@@ -1,0 +1,186 @@
+-- Worked schedules: what a row of the table says, and what a schedule does, so that one statement compares the two.
+use Prim.Native.Nat.{ℕ, zero, suc, _+_, _*_}
+use mathlib.Core.Bool.{Bool, true, false}
+use mathlib.Core.Path.{_≡_}
+use mathlib.Core.List.{List, [], _∷_, map, reverse}
+use lib.ListN.{getD, set, replicate}
+use Rattle.model.specs.State.{rowAt, workerAt, idle, emptyCatalogue}
+use Rattle.model.specs.Order.{head, keyAtMost, keyBelow, hasKey}
+use Rattle.model.specs.Numbers.{refusalNumber}
+use Rattle.model.specs.Count.{walk, isSave, savesAmong, saves, takenFrom, taken}
+use Rattle.model.specs.Run.{call}
+use Rattle.model.specs.Step.{submit, step, stepWorker, applied, ninthHelp, workerAfter, stacked, written, effectOf, lineEffect, firstLine}
+use Rattle.model.specs.WellFormed.{wellFormed, rowWell, workerWell, namedIsHeld, holderNames, heldRow, lineNumbers, allFrom}
+use Rattle.model.specs.SearchFrom.{searchLine, searchFrom-1, searchFrom-2, searchFrom-3-next-mark, searchFrom-3-curr-mark, searchFrom-3-curr-right, searchFrom-4, searchFrom-6, searchFrom-7, searchFrom-9, searchFrom-10, returnTo, reaches, search-2}
+use Rattle.model.specs.Insert.{insertLine, insert-2, insert-4, insert-6, insert-10-11, insert-15, insert-17, insert-18, insert-20, lowestFree, lowestFreeFrom}
+use Rattle.model.specs.Delete.{flagLine, delete-2, delete-7, tryFlag-2, tryFlag-4, tryFlag-5, tryFlag-9, tryFlag-10, tryFlag-12}
+use Rattle.model.specs.HelpFlagged.{helpLine, helpFlagged-1, helpFlagged-2, helpFlagged-4, helpFlaggedReturns, tryMark-2, tryMark-3, tryMark-6}
+use Rattle.model.specs.HelpMarked.{helpMarked-1, helpMarked-2}
+use Rattle.model.specs.Cas.{cas, sameSucc, flaggedOnly}
+use Rattle.model.specs.declared.Row.{Row}
+use Rattle.model.specs.declared.Catalogue.{Catalogue}
+use Rattle.model.specs.declared.Stepped.{Stepped}
+use Rattle.model.specs.declared.Call.{Call}
+use Rattle.model.specs.declared.Call.the-variants.{Submit, Step}
+use Rattle.model.specs.declared.Answer.{Answer}
+use Rattle.model.specs.declared.Verdict.{Verdict}
+use Rattle.model.specs.declared.Verdict.the-variants.{Accepted, Refused}
+use Rattle.model.specs.declared.Line.{Line}
+use Rattle.model.specs.declared.Line.the-variants.{Idle, Search, Insert, Flag, Help}
+
+-- ---- The words of the table ----
+
+pub record Save : Type 0 where
+  pub key : ℕ
+  pub element : ℕ
+
+abbrev pub save : ℕ → ℕ → Save
+save key element = record { key = key; element = element }
+
+-- n saves, the keys falling to `low`, each with ten times its key as element
+abbrev pub descending : ℕ → ℕ → List Save
+descending zero low = []
+descending (suc n) low = save (low + n) (10 * (low + n)) ∷ descending n low
+
+-- n keys, rising from `low`
+abbrev pub ascending : ℕ → ℕ → List ℕ
+ascending zero low = []
+ascending (suc n) low = low ∷ ascending n (suc low)
+
+-- One phase of a script, by one worker.
+pub data Phase : Type 0 where
+  searches : ℕ → ℕ → Phase
+  inserts : ℕ → ℕ → ℕ → Phase
+  deletes : ℕ → ℕ → Phase
+  -- so many steps
+  takes : ℕ → ℕ → Phase
+  -- steps until the request is finished
+  finishes : ℕ → Phase
+
+-- What can be seen of a call: a finish, with the steps that the request took in all, or a refusal.
+pub data Event : Type 0 where
+  answered : ℕ → ℕ → Answer → Event
+  refused : ℕ → ℕ → Event
+
+-- What is seen of a schedule: its events, and at its end the rows not free, the saves counted and the keys on the chain.
+pub record Outcome : Type 0 where
+  pub events : List Event
+  pub taken : ℕ
+  pub saves : ℕ
+  pub chain : List ℕ
+
+pub record Worked : Type 0 where
+  -- saves added first, one after another, by worker 7
+  pub start : List Save
+  pub script : List Phase
+  pub outcome : Outcome
+
+-- ---- What a schedule does ----
+
+-- A state, the steps that each worker's request has taken, and the events so far, the newest first.
+pub record Progress : Type 0 where
+  pub state : Catalogue
+  pub steps : List ℕ
+  pub events : List Event
+
+abbrev progress : Catalogue → List ℕ → List Event → Progress
+progress state steps events = record { state = state; steps = steps; events = events }
+
+-- an accepted step of worker w, which has now taken n: it has finished, or not
+afterStep : ℕ → ℕ → Line → List Event → List Event
+afterStep w n (Idle a) es = answered w n a ∷ es
+afterStep w n (Search l f) es = es
+afterStep w n (Insert l f) es = es
+afterStep w n (Flag l f) es = es
+afterStep w n (Help l f) es = es
+
+-- a call, with every definition of the machine open, so that it computes
+computed : Catalogue → Call → Stepped
+unfolding call submit step stepWorker applied ninthHelp workerAfter stacked written effectOf lineEffect firstLine wellFormed rowWell workerWell namedIsHeld holderNames heldRow lineNumbers allFrom searchLine searchFrom-1 searchFrom-2 searchFrom-3-next-mark searchFrom-3-curr-mark searchFrom-3-curr-right searchFrom-4 searchFrom-6 searchFrom-7 searchFrom-9 searchFrom-10 returnTo reaches search-2 insertLine insert-2 insert-4 insert-6 insert-10-11 insert-15 insert-17 insert-18 insert-20 lowestFree lowestFreeFrom flagLine delete-2 delete-7 tryFlag-2 tryFlag-4 tryFlag-5 tryFlag-9 tryFlag-10 tryFlag-12 helpLine helpFlagged-1 helpFlagged-2 helpFlagged-4 helpFlaggedReturns tryMark-2 tryMark-3 tryMark-6 helpMarked-1 helpMarked-2 cas sameSucc flaggedOnly keyAtMost keyBelow hasKey
+computed c x = call c x
+
+stepSeen : Progress → ℕ → Stepped → Verdict → Progress
+unfolding afterStep
+stepSeen p w s Accepted =
+    let n = getD (p .steps) w 0 + 1 in
+    progress (s .state) (set (p .steps) w n) (afterStep w n (workerAt (s .state .workers) w .line) (p .events))
+stepSeen p w s (Refused r) = progress (s .state) (p .steps) (refused w (refusalNumber r) ∷ p .events)
+
+submitSeen : Progress → ℕ → Stepped → Verdict → Progress
+submitSeen p w s Accepted = progress (s .state) (set (p .steps) w 0) (p .events)
+submitSeen p w s (Refused r) = progress (s .state) (p .steps) (refused w (refusalNumber r) ∷ p .events)
+
+stepOnce : Progress → ℕ → Progress
+unfolding computed stepSeen
+stepOnce p w = let s = computed (p .state) (Step w) in stepSeen p w s (s .verdict)
+
+submitOnce : Progress → ℕ → ℕ → ℕ → ℕ → Progress
+unfolding computed submitSeen
+submitOnce p w code key element = let s = computed (p .state) (Submit w code key element) in submitSeen p w s (s .verdict)
+
+stepMany : ℕ → Progress → ℕ → Progress
+unfolding stepOnce
+stepMany zero p w = p
+stepMany (suc n) p w = stepMany n (stepOnce p w) w
+
+-- at most so many steps, and none once the worker is idle
+stepUntilIdle : ℕ → Progress → ℕ → Progress
+unfolding stepOnce
+stepUntilIdle zero p w = p
+stepUntilIdle (suc n) p w =
+    elim (idle (workerAt (p .state .workers) w .line)) [ true ↦ p | false ↦ stepUntilIdle n (stepOnce p w) w ]
+
+phase : Progress → Phase → Progress
+unfolding submitOnce stepMany stepUntilIdle
+phase p (searches w key) = submitOnce p w 1 key 0
+phase p (inserts w key element) = submitOnce p w 2 key element
+phase p (deletes w key) = submitOnce p w 3 key 0
+phase p (takes w n) = stepMany n p w
+phase p (finishes w) = stepUntilIdle 8192 p w
+
+phases : Progress → List Phase → Progress
+unfolding phase
+phases p [] = p
+phases p (x ∷ xs) = phases (phase p x) xs
+
+-- each save's insert, to its finish
+additions : List Save → List Phase
+additions [] = []
+additions (s ∷ ss) = inserts 7 (s .key) (s .element) ∷ finishes 7 ∷ additions ss
+
+started : List Save → Catalogue
+unfolding phases additions
+started saves = phases (progress emptyCatalogue (replicate 8 0) []) (additions saves) .state
+
+-- What is seen of a schedule, as one constructor: so it is computed once.
+pub data Seen : Type 0 where
+  seen : List Event → ℕ → ℕ → List ℕ → Seen
+
+abbrev pub seenAs : Outcome → Seen
+seenAs o = seen (o .events) (o .taken) (o .saves) (o .chain)
+
+seenAt : List Event → List Row → Seen
+unfolding walk taken takenFrom saves savesAmong isSave
+seenAt events rows =
+    seen (reverse events) (taken rows) (saves rows) (map (λ (i : ℕ). rowAt rows i .key) (walk 128 rows head))
+
+seenOf : Progress → Seen
+unfolding seenAt
+seenOf p = seenAt (p .events) (p .state .rows)
+
+unfoldable pub outcomeOf : Worked → Seen
+unfolding started phases seenOf
+outcomeOf w = seenOf (phases (progress (started (w .start)) (replicate 8 0) []) (w .script))
+
+-- what the schedules of a table do, and what the table says
+unfoldable pub outcomes : List Worked → List Seen
+outcomes [] = []
+outcomes (w ∷ ws) = outcomeOf w ∷ outcomes ws
+
+unfoldable pub claims : List Worked → List Seen
+claims [] = []
+claims (w ∷ ws) = seenAs (w .outcome) ∷ claims ws
+
+-- Every row of the table says what its schedule does.
+abbrev pub Right : List Worked → Type 0
+Right table = outcomes table ≡ claims table
