@@ -1,6 +1,6 @@
 -- What P1 to P10 never run, as a second table under the same statement.
 use mathlib.Core.Path.{refl}
-use mathlib.Core.List.{List, [], _∷_, _++_}
+use mathlib.Core.List.{List, _++_}
 use Rattle.model.specs.Worked.{Worked, Right, outcomes, claims, outcomeOf}
 use Rattle.model.specs.SearchSchedules.{searchSchedules}
 use Rattle.model.specs.InsertSchedules.{insertSchedules}

@@ -7,7 +7,7 @@ use lib.ListN.{getD, set, replicate}
 use Rattle.model.specs.State.{rowAt, workerAt, idle, emptyCatalogue}
 use Rattle.model.specs.Order.{head, keyAtMost, keyBelow, hasKey}
 use Rattle.model.specs.Numbers.{refusalNumber}
-use Rattle.model.specs.Count.{walk, isSave, savesAmong, saves, takenFrom, taken}
+use Rattle.model.specs.Count.{walk, isSave, savesAmong, saves, countable, count, takenFrom, taken}
 use Rattle.model.specs.Run.{call}
 use Rattle.model.specs.Step.{submit, step, stepWorker, applied, ninthHelp, workerAfter, stacked, written, effectOf, lineEffect, firstLine}
 use Rattle.model.specs.WellFormed.{wellFormed, rowWell, workerWell, namedIsHeld, holderNames, heldRow, lineNumbers, allFrom}
@@ -42,11 +42,6 @@ abbrev pub descending : ℕ → ℕ → List Save
 descending zero low = []
 descending (suc n) low = save (low + n) (10 * (low + n)) ∷ descending n low
 
--- n keys, rising from `low`
-abbrev pub ascending : ℕ → ℕ → List ℕ
-ascending zero low = []
-ascending (suc n) low = low ∷ ascending n (suc low)
-
 -- One phase of a script, by one worker.
 pub data Phase : Type 0 where
   searches : ℕ → ℕ → Phase
@@ -62,18 +57,24 @@ pub data Event : Type 0 where
   answered : ℕ → ℕ → Answer → Event
   refused : ℕ → ℕ → Event
 
--- What is seen of a schedule: its events, and at its end the rows not free, the saves counted and the keys on the chain.
-pub record Outcome : Type 0 where
+-- A row on the chain, with its key.
+pub data Link : Type 0 where
+  at : ℕ → ℕ → Link
+
+-- the first n rows that can be taken, the last of them first on the chain, with keys that rise from `low`
+abbrev pub rising : ℕ → ℕ → List Link
+rising zero low = []
+rising (suc n) low = at (suc (suc n)) low ∷ rising n (suc low)
+
+-- A row of the table: saves added first, one after another, by worker 7; then the script; then what is seen: the events, and at the
+-- end the rows not free, the saves counted and the rows on the chain.
+pub record Worked : Type 0 where
+  pub start : List Save
+  pub script : List Phase
   pub events : List Event
   pub taken : ℕ
   pub saves : ℕ
-  pub chain : List ℕ
-
-pub record Worked : Type 0 where
-  -- saves added first, one after another, by worker 7
-  pub start : List Save
-  pub script : List Phase
-  pub outcome : Outcome
+  pub chain : List Link
 
 -- ---- What a schedule does ----
 
@@ -100,13 +101,14 @@ unfolding call submit step stepWorker applied ninthHelp workerAfter stacked writ
 computed c x = call c x
 
 stepSeen : Progress → ℕ → Stepped → Verdict → Progress
-unfolding afterStep
+unfolding afterStep refusalNumber
 stepSeen p w s Accepted =
     let n = getD (p .steps) w 0 + 1 in
     progress (s .state) (set (p .steps) w n) (afterStep w n (workerAt (s .state .workers) w .line) (p .events))
 stepSeen p w s (Refused r) = progress (s .state) (p .steps) (refused w (refusalNumber r) ∷ p .events)
 
 submitSeen : Progress → ℕ → Stepped → Verdict → Progress
+unfolding refusalNumber
 submitSeen p w s Accepted = progress (s .state) (set (p .steps) w 0) (p .events)
 submitSeen p w s (Refused r) = progress (s .state) (p .steps) (refused w (refusalNumber r) ∷ p .events)
 
@@ -154,15 +156,12 @@ started saves = phases (progress emptyCatalogue (replicate 8 0) []) (additions s
 
 -- What is seen of a schedule, as one constructor: so it is computed once.
 pub data Seen : Type 0 where
-  seen : List Event → ℕ → ℕ → List ℕ → Seen
-
-abbrev pub seenAs : Outcome → Seen
-seenAs o = seen (o .events) (o .taken) (o .saves) (o .chain)
+  seen : List Event → ℕ → ℕ → List Link → Seen
 
 seenAt : List Event → List Row → Seen
-unfolding walk taken takenFrom saves savesAmong isSave
+unfolding walk taken takenFrom count countable saves savesAmong isSave allFrom
 seenAt events rows =
-    seen (reverse events) (taken rows) (saves rows) (map (λ (i : ℕ). rowAt rows i .key) (walk 128 rows head))
+    seen (reverse events) (taken rows) (count rows .saves) (map (λ (i : ℕ). at i (rowAt rows i .key)) (walk 128 rows head))
 
 seenOf : Progress → Seen
 unfolding seenAt
@@ -179,7 +178,7 @@ outcomes (w ∷ ws) = outcomeOf w ∷ outcomes ws
 
 unfoldable pub claims : List Worked → List Seen
 claims [] = []
-claims (w ∷ ws) = seenAs (w .outcome) ∷ claims ws
+claims (w ∷ ws) = seen (w .events) (w .taken) (w .saves) (w .chain) ∷ claims ws
 
 -- Every row of the table says what its schedule does.
 abbrev pub Right : List Worked → Type 0
