@@ -1,4 +1,11 @@
 -- Worked schedules: what a row of the table says, and what a schedule does, so that one statement compares the two.
+pub mod FirstTable
+pub mod SearchSchedules
+pub mod InsertSchedules
+pub mod DeleteSchedules
+pub mod HelpSchedules
+pub mod EdgeSchedules
+pub mod SecondTable
 use Prim.Native.Nat.{ℕ, zero, suc, _+_, _*_}
 use mathlib.Core.Bool.{Bool, true, false}
 use mathlib.Core.Path.{_≡_}
@@ -42,7 +49,7 @@ pub data Phase : Type 0 where
   deletes : ℕ → ℕ → Phase
   -- so many steps
   takes : ℕ → ℕ → Phase
-  -- steps until the request is finished
+  -- steps until the request is finished: a hundred are enough for every schedule here
   finishes : ℕ → Phase
 
 -- What can be seen of a call: a finish, with the steps that the request took in all, or a refusal.
@@ -126,7 +133,7 @@ phase p (searches w key) = submitOnce p w 1 key 0
 phase p (inserts w key element) = submitOnce p w 2 key element
 phase p (deletes w key) = submitOnce p w 3 key 0
 phase p (takes w n) = stepMany n p w
-phase p (finishes w) = stepUntilIdle 8192 p w
+phase p (finishes w) = stepUntilIdle 100 p w
 
 phases : Progress → List Phase → Progress
 unfolding phase

@@ -1,7 +1,7 @@
 -- Schedules at the edges: key 0, the largest key, the full catalogue, refused calls.
 use mathlib.Core.List.{List, [], _∷_}
-use Rattle.model.specs.Worked.{Worked, save, searches, inserts, deletes, takes, finishes, answered, refused, at, descending, rising}
-use Rattle.model.specs.declared.Answer.the-variants.{Found, Absent, Added, Duplicate, Removed, Full}
+use Rattle.model.specs.Worked.{Worked, save, searches, inserts, deletes, takes, finishes, answered, refused, at}
+use Rattle.model.specs.declared.Answer.the-variants.{Found, Absent, Added, Duplicate, Removed}
 
 -- Key 0: nothing is taken for the head, and the tail does not have key 0.
 abbrev key-zero : Worked
@@ -52,21 +52,6 @@ lost-save-at-the-ends = record {
     saves = 2;
     chain = at 4 20 ∷ at 2 4294967295 ∷ [] }
 
--- The full catalogue. Of the last two rows one insert holds one and another links one: a new key is Full. The held row is
--- given back at line 20 and taken by a new key. Then a new key is Full, a key that is there is Duplicate, and a new key
--- stays Full after a delete.
-abbrev full : Worked
-full = record {
-    start = descending 124 3;
-    script = inserts 0 1 10 ∷ takes 0 2 ∷ inserts 1 1 11 ∷ finishes 1 ∷ inserts 2 2 20 ∷ finishes 2 ∷ finishes 0
-        ∷ inserts 2 2 20 ∷ finishes 2 ∷ inserts 0 0 5 ∷ finishes 0 ∷ inserts 0 1 12 ∷ finishes 0 ∷ deletes 0 1 ∷ finishes 0
-        ∷ inserts 0 1 13 ∷ finishes 0 ∷ [];
-    events = answered 1 4 Added ∷ answered 2 4 Full ∷ answered 0 8 Duplicate ∷ answered 2 6 Added ∷ answered 0 2 Full
-        ∷ answered 0 3 Duplicate ∷ answered 0 10 (Removed 11) ∷ answered 0 2 Full ∷ [];
-    taken = 126;
-    saves = 125;
-    chain = rising 125 2 }
-
 -- The lowest free row is taken: of three held rows the first is given back, and the next insert takes that one.
 abbrev lowest-free-row : Worked
 lowest-free-row = record {
@@ -77,6 +62,16 @@ lowest-free-row = record {
     taken = 4;
     saves = 2;
     chain = at 5 1 ∷ at 2 9 ∷ [] }
+
+-- A marked row that is still on the chain is counted: the first 7 steps of A in P10.
+abbrev marked-row-counted : Worked
+marked-row-counted = record {
+    start = save 10 100 ∷ [];
+    script = deletes 0 10 ∷ takes 0 7 ∷ [];
+    events = [];
+    taken = 1;
+    saves = 1;
+    chain = at 2 10 ∷ [] }
 
 -- Refused calls (unknown worker 1, busy 2, idle 3) change nothing.
 abbrev refused-calls : Worked
@@ -91,4 +86,5 @@ refused-calls = record {
     chain = at 2 5 ∷ [] }
 
 unfoldable pub edgeSchedules : List Worked
-edgeSchedules = key-zero ∷ largest-key ∷ both-ends ∷ lost-save-at-the-ends ∷ full ∷ lowest-free-row ∷ refused-calls ∷ []
+edgeSchedules = key-zero ∷ largest-key ∷ both-ends ∷ lost-save-at-the-ends ∷ lowest-free-row ∷ marked-row-counted
+    ∷ refused-calls ∷ []

@@ -2,11 +2,11 @@
 use mathlib.Core.Path.{refl}
 use mathlib.Core.List.{List, _++_}
 use Rattle.model.specs.Worked.{Worked, Right, outcomes, claims, outcomeOf}
-use Rattle.model.specs.SearchSchedules.{searchSchedules}
-use Rattle.model.specs.InsertSchedules.{insertSchedules}
-use Rattle.model.specs.DeleteSchedules.{deleteSchedules}
-use Rattle.model.specs.HelpSchedules.{helpSchedules}
-use Rattle.model.specs.EdgeSchedules.{edgeSchedules}
+use Rattle.model.specs.Worked.SearchSchedules.{searchSchedules}
+use Rattle.model.specs.Worked.InsertSchedules.{insertSchedules}
+use Rattle.model.specs.Worked.DeleteSchedules.{deleteSchedules}
+use Rattle.model.specs.Worked.HelpSchedules.{helpSchedules}
+use Rattle.model.specs.Worked.EdgeSchedules.{edgeSchedules}
 
 pub secondTable : List Worked
 secondTable = searchSchedules ++ insertSchedules ++ deleteSchedules ++ helpSchedules ++ edgeSchedules
