@@ -1,6 +1,6 @@
 -- No step finishes with `NoAnswer`, the answer 0 of a fresh worker: it is there only before a worker's first finish.
 use Prim.Native.Nat.{ℕ, _-_, _<_}
-use mathlib.Core.Bool.{Bool, true, false, true≢false}
+use mathlib.Core.Bool.{Bool, true, false, not, true≢false}
 use mathlib.Core.Path.{_≡_, refl, ap, sym, _∙_}
 use mathlib.Core.Logic.{_≢_}
 use mathlib.Core.List.{List}
@@ -191,24 +191,25 @@ line-answers rows me count last (Insert l f) busy = insert-answers rows me f l
 line-answers rows me count last (Flag l f) busy = flag-answers rows f l
 line-answers rows me count last (Help l f) busy = help-answers rows count last f l
 
-stacked-line : (k : Worker) (l : Line) (s : Stack) → stacked k l s .line ≡ l
+pub stacked-line : (k : Worker) (l : Line) (s : Stack) → stacked k l s .line ≡ l
 unfolding stacked
 stacked-line k l Keep = refl
 stacked-line k l (Push h) = refl
 stacked-line k l Pop = refl
 
-line-after : (k : Worker) (e : Effect) → workerAfter k e .line ≡ e .line
+pub line-after : (k : Worker) (e : Effect) → workerAfter k e .line ≡ e .line
 unfolding workerAfter
 line-after k e = if-both (λ (x : Worker). x .line ≡ e .line) (idle (e .line)) refl (stacked-line k (e .line) (e .stack))
 
 -- a busy worker is one of the list
 busy-inside : (workers : List Worker) (w : ℕ) → idle (workerAt workers w .line) ≡ false → w < length workers
 busy-inside workers w busy = elim (decLt w (length workers)) [
-    yes inside ↦ inside
+  | yes inside ↦ inside
   | no outside ↦
       let past : workerAt workers w ≡ idleWorker NoAnswer = List·getD-eq-default workers (idleWorker NoAnswer) (omega arith) in
       let apart : _≡_ {A = ℕ} 0 1 = cc in
-      omega arith ]
+      omega arith
+]
 
 module _ (c : Catalogue) (w : ℕ) where
   -- an accepted call leaves worker w with another line than a fresh one's
@@ -232,7 +233,7 @@ module _ (c : Catalogue) (w : ℕ) where
 
   step-finishes : Finishes (step c w)
   unfolding step
-  step-finishes = if-both Finishes (ltb 7 w) (λ v. cc) (if-both Finishes (wellFormed c) stepWorker-finishes (λ v. cc))
+  step-finishes = if-both Finishes (ltb 7 w) (λ v. cc) (if-both Finishes (not (wellFormed c)) (λ v. cc) stepWorker-finishes)
 
   pub never-no-answer : step c w .verdict ≡ Accepted → workerAt (step c w .state .workers) w .line ≢ Idle NoAnswer
   never-no-answer accepted finished = true≢false (sym (ap fresh finished) ∙ step-finishes accepted)

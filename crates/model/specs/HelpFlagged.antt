@@ -46,9 +46,10 @@ tryMark-3 rows f right =
     let swap = cas rows (f .del) (succOf right false false) (succOf right true false) in
     if flaggedOnly result
     then record {
-        line = callHelpFlagged (f .key) (f .element) (f .del) (result .right) (f .caller);
-        write = swap;
-        stack = Push (record { prev = f .prev; del = f .del }) }
+      line = callHelpFlagged (f .key) (f .element) (f .del) (result .right) (f .caller);
+      write = swap;
+      stack = Push (record { prev = f .prev; del = f .del });
+    }
     else goWriting swap (Help TryMark6 f)
 
 -- TryMark, line 6 reads del's mark: repeat until it is 1. Then HelpFlagged's line 4: HelpMarked(prev, del).
@@ -68,9 +69,10 @@ helpFlagged-4 rows count last f right =
     if eqb count 0
     then goWriting (helpMarked-2 rows (f .prev) (f .del) right) (helpFlaggedReturns rows (f .key) (f .element) (f .caller))
     else record {
-        line = Help TryMark6 (record { key = f .key; element = f .element; prev = last .prev; del = last .del; caller = f .caller });
-        write = helpMarked-2 rows (f .prev) (f .del) right;
-        stack = Pop }
+      line = Help TryMark6 (record { key = f .key; element = f .element; prev = last .prev; del = last .del; caller = f .caller });
+      write = helpMarked-2 rows (f .prev) (f .del) right;
+      stack = Pop;
+    }
 
 -- Which definition belongs to which line. `count` pending helps wait, the last of them `last`.
 unfoldable pub helpLine : List Row → ℕ → Pending → HelpFrame → HelpLine → Effect

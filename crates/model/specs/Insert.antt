@@ -60,8 +60,8 @@ insert-4 rows me f next =
     let new = lowestFree rows in
     if ltb new 128
     then goWriting
-        (OneRow new (record { key = f .key; element = f .element; backlink = 0; succ = succOf 0 false false; standing = Held me }))
-        (Insert (Insert6 next new) f)
+    (OneRow new (record { key = f .key; element = f .element; backlink = 0; succ = succOf 0 false false; standing = Held me }))
+    (Insert (Insert6 next new) f)
     else finish Full
 
 -- Line 6 reads prev's successor. Lines 7 and 8: if it is flagged, HelpFlagged(prev, its right). Else lines 10 and 11.
@@ -90,8 +90,8 @@ insert-10-11 rows f next new =
     let linked = linkedRow stored in
     if sameSucc result (succOf next false false)
     then goWriting
-        (TwoRows new linked (f .prev) (withSucc (rowAt (set rows new linked) (f .prev)) (succOf new false false)))
-        (Idle Added)
+    (TwoRows new linked (f .prev) (withSucc (rowAt (set rows new linked) (f .prev)) (succOf new false false)))
+    (Idle Added)
     else goWriting (OneRow new stored) (insert-15 f new result)
 
 -- Line 19: SearchFrom(k, prev).

@@ -1,5 +1,6 @@
 -- A refused call changes nothing: one lemma for all states, all calls and all numbers.
 use Prim.Native.Nat.{ℕ}
+use mathlib.Core.Bool.{not}
 use mathlib.Core.Path.{_≡_, refl}
 use lib.Dec.{ltb}
 use Rattle.model.specs.State.{workerAt, idle}
@@ -39,14 +40,12 @@ call-unchanged : (c : Catalogue) (x : Call) → Unchanged c (call c x)
 unfolding call submit step
 call-unchanged c (Submit w code key element) =
     if-both (Unchanged c) (ltb 7 w) (refused-unchanged _ c)
-    (if-both (Unchanged c) (wellFormed c)
-    (if-both (Unchanged c) (isRequest code)
-    (if-both (Unchanged c) (idle (workerAt (c .workers) w .line)) (accepted-unchanged c _) (refused-unchanged _ c))
-    (refused-unchanged _ c))
-    (refused-unchanged _ c))
+    (if-both (Unchanged c) (not (wellFormed c)) (refused-unchanged _ c)
+    (if-both (Unchanged c) (not (isRequest code)) (refused-unchanged _ c)
+    (if-both (Unchanged c) (not (idle (workerAt (c .workers) w .line))) (refused-unchanged _ c) (accepted-unchanged c _))))
 call-unchanged c (Step w) =
     if-both (Unchanged c) (ltb 7 w) (refused-unchanged _ c)
-    (if-both (Unchanged c) (wellFormed c) (stepWorker-unchanged c w) (refused-unchanged _ c))
+    (if-both (Unchanged c) (not (wellFormed c)) (refused-unchanged _ c) (stepWorker-unchanged c w))
 
 pub refused-changes-nothing : (c : Catalogue) (x : Call) (r : Refusal) → call c x .verdict ≡ Refused r → call c x .state ≡ c
 refused-changes-nothing c x r e = call-unchanged c x .kept r e

@@ -1,7 +1,7 @@
 -- The schedule file: version byte 1, a two-byte big-endian length of what follows, then records. A record is a length byte and so
 -- many bytes: 1, the worker (a step), or 10, worker, code, key and element (a submit). A file is a list of bytes.
 use Prim.Native.Nat.{ℕ, zero, suc, _+_, _*_}
-use mathlib.Core.Bool.{Bool, true, false, _&&_, _||_}
+use mathlib.Core.Bool.{Bool, true, false, not, _&&_, _||_}
 use mathlib.Core.List.{List, [], _∷_}
 use lib.ListN.{length, drop, getD}
 use lib.Dec.{ltb, leb, eqb}
@@ -43,12 +43,11 @@ recordsFit (suc tries) (n ∷ rest) = recordFits n rest && recordsFit tries (dro
 unfoldable pub fileVerdict : List ℕ → Verdict
 fileVerdict file =
     if ltb (length file) 3 then Refused FileLength
-    else if eqb (byteAt file 0) 1 then
-        (if ltb 60000 (statedLength file) then Refused FileTooLong
-        else if eqb (statedLength file) (length (body file)) then
-            (if recordsFit (length (body file)) (body file) then Accepted else Refused FileRecord)
-        else Refused FileLength)
-    else Refused FileVersion
+    else if not (eqb (byteAt file 0) 1) then Refused FileVersion
+    else if ltb 60000 (statedLength file) then Refused FileTooLong
+    else if not (eqb (statedLength file) (length (body file))) then Refused FileLength
+    else if not (recordsFit (length (body file)) (body file)) then Refused FileRecord
+    else Accepted
 
 -- the call of a record of n bytes
 unfoldable pub recordCall : ℕ → List ℕ → Call

@@ -16,7 +16,6 @@ use Rattle.model.specs.declared.Line.{Line}
 use Rattle.model.specs.declared.Line.the-variants.{Idle, Search, Insert, Flag, Help}
 
 infixr 5 if_then_else_
-
 abbrev pub if_then_else_ : {A : Type 0} → Bool → A → A → A
 if true then a else b = a
 if false then a else b = b

@@ -1,6 +1,6 @@
 -- Submit and step: the refusals in document 01's order, and what an accepted call does.
 use Prim.Native.Nat.{ℕ, _+_, _-_}
-use mathlib.Core.Bool.{Bool, true, false}
+use mathlib.Core.Bool.{Bool, true, false, not}
 use mathlib.Core.List.{List}
 use lib.ListN.{set}
 use lib.Dec.{ltb, leb, eqb}
@@ -87,8 +87,8 @@ stepWorker c w =
 unfoldable pub step : Catalogue → ℕ → Stepped
 step c w =
     if ltb 7 w then refuse NoSuchWorker c
-    else if wellFormed c then stepWorker c w
-    else refuse NotWellFormed c
+    else if not (wellFormed c) then refuse NotWellFormed c
+    else stepWorker c w
 
 -- the request codes: 1 search, 2 insert, 3 delete
 abbrev pub isRequest : ℕ → Bool
@@ -102,16 +102,14 @@ firstLine code key element =
     else if eqb code 2 then callSearchFrom key element head Insert1
     else callSearchFrom key 0 head Delete1
 
+abbrev pub withWorker : Catalogue → ℕ → Worker → Catalogue
+withWorker c w k = record { rows = c .rows; workers = set (c .workers) w k }
+
 -- Submit, refusals 1, 4, 6, 2.
 unfoldable pub submit : Catalogue → ℕ → ℕ → ℕ → ℕ → Stepped
 submit c w code key element =
     if ltb 7 w then refuse NoSuchWorker c
-    else if wellFormed c then
-        (if isRequest code then
-            (if idle (workerAt (c .workers) w .line)
-            then accept (record {
-                rows = c .rows;
-                workers = set (c .workers) w (record { line = firstLine code key element; helps = noHelps; count = 0 }) })
-            else refuse WorkerBusy c)
-        else refuse NoSuchRequest c)
-    else refuse NotWellFormed c
+    else if not (wellFormed c) then refuse NotWellFormed c
+    else if not (isRequest code) then refuse NoSuchRequest c
+    else if not (idle (workerAt (c .workers) w .line)) then refuse WorkerBusy c
+    else accept (withWorker c w (record { line = firstLine code key element; helps = noHelps; count = 0 }))

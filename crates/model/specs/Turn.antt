@@ -1,13 +1,11 @@
 -- A turn: up to a budget of steps of one worker, which stops at its finish. The lent record stands for that worker's record in the
 -- state, in the checks and in the state returned.
 use Prim.Native.Nat.{ℕ, zero, suc, _+_}
-use mathlib.Core.Bool.{Bool, true, false}
-use mathlib.Core.List.{List}
-use lib.ListN.{set}
+use mathlib.Core.Bool.{Bool, true, false, not}
 use lib.Dec.{ltb}
 use Rattle.model.specs.State.{if_then_else_, workerAt, idle}
 use Rattle.model.specs.WellFormed.{wellFormed}
-use Rattle.model.specs.Step.{stepWorker}
+use Rattle.model.specs.Step.{stepWorker, withWorker}
 use Rattle.model.specs.declared.Worker.{Worker}
 use Rattle.model.specs.declared.Catalogue.{Catalogue}
 use Rattle.model.specs.declared.Turned.{Turned}
@@ -38,16 +36,13 @@ turnFrom w (suc left) n c =
 abbrev pub refuseTurn : Refusal → Catalogue → Worker → Turned
 refuseTurn r c lent = record { verdict = Refused r; steps = 0; state = c; lent = lent }
 
-abbrev pub withWorker : Catalogue → ℕ → Worker → Catalogue
-withWorker c w k = record { rows = c .rows; workers = set (c .workers) w k }
-
 -- a turn of a worker that exists, in the state that has the lent record in its place
 unfoldable pub turnOf : Catalogue → ℕ → ℕ → Worker → Turned
 turnOf c w budget lent =
     if ltb 8192 budget then refuseTurn BudgetTooLarge c lent
-    else if wellFormed c then
-        (if idle (lent .line) then refuseTurn WorkerIdle c lent else turnFrom w budget 0 c)
-    else refuseTurn NotWellFormed c lent
+    else if not (wellFormed c) then refuseTurn NotWellFormed c lent
+    else if idle (lent .line) then refuseTurn WorkerIdle c lent
+    else turnFrom w budget 0 c
 
 -- Turn, refusals 1, 11, 4, 3, with 0 steps and the record as it was lent.
 unfoldable pub turn : Catalogue → ℕ → ℕ → Worker → Turned

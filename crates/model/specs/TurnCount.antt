@@ -1,16 +1,17 @@
 -- What the count of a turn is: taking single steps that often, each accepted, leads to the turn's end state; and the turn stops where
 -- the budget is spent, the worker is idle, or the next step is refused with 5.
 use Prim.Native.Nat.{ℕ, zero, suc, _+_}
-use mathlib.Core.Bool.{Bool, true, false, true≢false}
+use mathlib.Core.Bool.{Bool, true, false, not, true≢false}
 use mathlib.Core.Path.{_≡_, refl, sym, _∙_, ap}
 use mathlib.Core.Logic.{_⊎_, inl, inr}
 use native.Mathlib.Omega.{arith}
 use lib.Dec.{ltb, eqb}
+use borrow.Author.Tests.{not-false}
 use Rattle.model.specs.State.{if_then_else_, workerAt, idle}
 use Rattle.model.specs.Choices.{if-both, if-known}
 use Rattle.model.specs.WellFormed.{wellFormed}
-use Rattle.model.specs.Step.{stepWorker, applied, ninthHelp, effectOf}
-use Rattle.model.specs.Turn.{accepted, turnEnds, turnFrom, turnOf, turn, withWorker, refuseTurn}
+use Rattle.model.specs.Step.{stepWorker, applied, ninthHelp, effectOf, withWorker}
+use Rattle.model.specs.Turn.{accepted, turnEnds, turnFrom, turnOf, turn, refuseTurn}
 use Rattle.model.specs.Numbers.{refusalNumber}
 use Rattle.model.specs.declared.Worker.{Worker}
 use Rattle.model.specs.declared.Catalogue.{Catalogue}
@@ -21,24 +22,28 @@ use Rattle.model.specs.declared.Verdict.the-variants.{Accepted, Refused}
 use Rattle.model.specs.declared.Refusal.{Refusal}
 use Rattle.model.specs.declared.Refusal.the-variants.{NoSuchWorker, WorkerIdle, NotWellFormed, NinthHelp, BudgetTooLarge}
 
--- n accepted steps of worker w lead from one state to another
-pub data Steps (w : ℕ) : ℕ → Catalogue → Catalogue → Type 0 where
-  no-step : {c : Catalogue} → Steps w 0 c c
-  one-more : {n : ℕ} {c d : Catalogue} → stepWorker c w .verdict ≡ Accepted → Steps w n (stepWorker c w .state) d → Steps w (suc n) c d
+-- n accepted steps, each taken by `next`, lead from one state to another
+pub data Steps (next : Catalogue → Stepped) : ℕ → Catalogue → Catalogue → Type 0 where
+  no-step : {c : Catalogue} → Steps next 0 c c
+  one-more : {n : ℕ} {c d : Catalogue} → next c .verdict ≡ Accepted → Steps next n (next c .state) d → Steps next (suc n) c d
 
 -- why a turn that took so many steps of its budget stopped
-pub data Stopped (w budget taken : ℕ) (t : Turned) : Type 0 where
-  spent : taken ≡ budget → t .verdict ≡ Accepted → Stopped w budget taken t
-  finished : idle (workerAt (t .state .workers) w .line) ≡ true → t .verdict ≡ Accepted → Stopped w budget taken t
-  ninth : stepWorker (t .state) w .verdict ≡ Refused NinthHelp → t .verdict ≡ Refused NinthHelp → Stopped w budget taken t
+pub data Stopped (next : Catalogue → Stepped) (w budget taken : ℕ) (t : Turned) : Type 0 where
+  spent : taken ≡ budget → t .verdict ≡ Accepted → Stopped next w budget taken t
+  finished : idle (workerAt (t .state .workers) w .line) ≡ true → t .verdict ≡ Accepted → Stopped next w budget taken t
+  ninth : next (t .state) .verdict ≡ Refused NinthHelp → t .verdict ≡ Refused NinthHelp → Stopped next w budget taken t
 
 -- a turn of worker w from state c, with n steps counted before it
-pub record Counts (w budget n : ℕ) (c : Catalogue) (t : Turned) : Type 0 where
+pub record Counts (next : Catalogue → Stepped) (w budget n : ℕ) (c : Catalogue) (t : Turned) : Type 0 where
   pub taken : ℕ
   pub counted : t .steps ≡ n + taken
-  pub led : Steps w taken c (t .state)
+  pub led : Steps next taken c (t .state)
   pub returned : t .lent ≡ workerAt (t .state .workers) w
-  pub stopped : Stopped w budget taken t
+  pub stopped : Stopped next w budget taken t
+
+-- a step of worker w of a state that is known to be well formed
+abbrev pub unchecked : ℕ → Catalogue → Stepped
+unchecked w c = stepWorker c w
 
 -- a busy worker's step is accepted, or refused with 5
 abbrev OnlyNinth : Stepped → Type 0
@@ -57,38 +62,50 @@ accepted-true : (v : Verdict) → accepted v ≡ true → v ≡ Accepted
 accepted-true Accepted e = refl
 accepted-true (Refused r) e = cc
 
-pub turnFrom-counts : (w left n : ℕ) (c : Catalogue) → Counts w left n c (turnFrom w left n c)
+pub turnFrom-counts : (w left n : ℕ) (c : Catalogue) → Counts (unchecked w) w left n c (turnFrom w left n c)
 unfolding turnFrom
 turnFrom-counts w zero n c =
     record { taken = 0; counted = omega arith; led = no-step; returned = refl; stopped = spent refl refl }
 turnFrom-counts w (suc left) n c =
-    if-known (Counts w (suc left) n c) (idle (workerAt (c .workers) w .line))
+    if-known (Counts (unchecked w) w (suc left) n c) (idle (workerAt (c .workers) w .line))
     (λ rests. record { taken = 0; counted = omega arith; led = no-step; returned = refl; stopped = finished rests refl })
-    (λ busy. if-known (Counts w (suc left) n c) (accepted (stepWorker c w .verdict))
-      (λ goes. after (accepted-true _ goes) (turnFrom-counts w left (n + 1) (stepWorker c w .state)))
-      (λ refuses.
-        let five = busy-only-ninth c w busy refuses in
-        record { taken = 0; counted = omega arith; led = no-step; returned = refl; stopped = ninth five five }))
+    (λ busy. if-known (Counts (unchecked w) w (suc left) n c) (accepted (stepWorker c w .verdict))
+    (λ goes. after (accepted-true _ goes) (turnFrom-counts w left (n + 1) (stepWorker c w .state)))
+    (λ refuses.
+    let five = busy-only-ninth c w busy refuses in
+    record { taken = 0; counted = omega arith; led = no-step; returned = refl; stopped = ninth five five }))
   where
-    longer : {taken : ℕ} {t : Turned} → Stopped w left taken t → Stopped w (suc left) (suc taken) t
+    longer : {taken : ℕ} {t : Turned} → Stopped (unchecked w) w left taken t → Stopped (unchecked w) w (suc left) (suc taken) t
     longer (spent e v) = spent (ap suc e) v
     longer (finished i v) = finished i v
     longer (ninth s v) = ninth s v
-    after : {t : Turned} → stepWorker c w .verdict ≡ Accepted → Counts w left (n + 1) (stepWorker c w .state) t → Counts w (suc left) n c t
+
+    after : {t : Turned} → stepWorker c w .verdict ≡ Accepted → Counts (unchecked w) w left (n + 1) (stepWorker c w .state) t
+        → Counts (unchecked w) w (suc left) n c t
     after goes r = record {
-        taken = suc (r .taken);
-        counted = omega (arith, r .counted);
-        led = one-more goes (r .led);
-        returned = r .returned;
-        stopped = longer (r .stopped) }
+      taken = suc (r .taken);
+      counted = omega (arith, r .counted);
+      led = one-more goes (r .led);
+      returned = r .returned;
+      stopped = longer (r .stopped);
+    }
 
 -- the turn took place: it was accepted, or ended with refusal 5
 abbrev pub Ran : Turned → Type 0
 Ran t = (t .verdict ≡ Accepted) ⊎ (t .verdict ≡ Refused NinthHelp)
 
+-- a turn that took place passed its checks, in the state with the lent record in its place, and its count is what it says
+pub record Took (w budget : ℕ) (start : Catalogue) (t : Turned) : Type 0 where
+  pub inside : ltb 7 w ≡ false
+  pub checked : wellFormed start ≡ true
+  pub counts : Counts (unchecked w) w budget 0 start t
+
 module _ (c : Catalogue) (w budget : ℕ) (lent : Worker) where
+  abbrev start : Catalogue
+  start = withWorker c w lent
+
   abbrev IfRan : Turned → Type 0
-  IfRan t = Ran t → Counts w budget 0 (withWorker c w lent) t
+  IfRan t = Ran t → Took w budget start t
 
   -- a turn refused with another number did not take place
   not-ran : (r : Refusal) (d : Catalogue) → eqb (refusalNumber r) 5 ≡ false → IfRan (refuseTurn r d lent)
@@ -101,8 +118,11 @@ module _ (c : Catalogue) (w budget : ℕ) (lent : Worker) where
   pub turn-counts : IfRan (turn c w budget lent)
   unfolding turn turnOf refusalNumber
   turn-counts =
-      if-both IfRan (ltb 7 w) (not-ran NoSuchWorker c refl)
-      (if-both IfRan (ltb 8192 budget) (not-ran BudgetTooLarge _ refl)
-      (if-both IfRan (wellFormed (withWorker c w lent))
-      (if-both IfRan (idle (lent .line)) (not-ran WorkerIdle _ refl) (λ _. turnFrom-counts w budget 0 (withWorker c w lent)))
-      (not-ran NotWellFormed _ refl)))
+      if-known IfRan (ltb 7 w) (λ _. not-ran NoSuchWorker c refl) (λ inside.
+      if-both IfRan (ltb 8192 budget) (not-ran BudgetTooLarge start refl) (
+      if-known IfRan (not (wellFormed start)) (λ _. not-ran NotWellFormed start refl) (λ checked.
+      if-both IfRan (idle (lent .line)) (not-ran WorkerIdle start refl) (λ _. record {
+        inside = inside;
+        checked = not-false (wellFormed start) checked;
+        counts = turnFrom-counts w budget 0 start;
+      }))))

@@ -284,7 +284,9 @@ pub fn idle_worker(a: Answer) -> Worker
 
 impl Catalogue {
     pub const ROWS: usize = 128;
+
     pub const WORKERS: usize = 8;
+
     pub const HELPS: usize = 8;
 
     pub fn empty() -> Self

@@ -9,15 +9,16 @@ use Rattle.model.specs.declared.Answer.the-variants.{Added, Duplicate, Removed,
 -- stays Full after a delete.
 abbrev full : Worked
 full = record {
-    start = descending 124 3;
-    script = inserts 0 1 10 ∷ takes 0 2 ∷ inserts 1 1 11 ∷ finishes 1 ∷ inserts 2 2 20 ∷ finishes 2 ∷ finishes 0
-        ∷ inserts 2 2 20 ∷ finishes 2 ∷ inserts 0 0 5 ∷ finishes 0 ∷ inserts 0 1 12 ∷ finishes 0 ∷ deletes 0 1 ∷ finishes 0
-        ∷ inserts 0 1 13 ∷ finishes 0 ∷ [];
-    events = answered 1 4 Added ∷ answered 2 4 Full ∷ answered 0 8 Duplicate ∷ answered 2 6 Added ∷ answered 0 2 Full
-        ∷ answered 0 3 Duplicate ∷ answered 0 10 (Removed 11) ∷ answered 0 2 Full ∷ [];
-    taken = 126;
-    saves = 125;
-    chain = rising 125 2 }
+  start = descending 124 3;
+  script = inserts 0 1 10 ∷ takes 0 2 ∷ inserts 1 1 11 ∷ finishes 1 ∷ inserts 2 2 20 ∷ finishes 2 ∷ finishes 0
+      ∷ inserts 2 2 20 ∷ finishes 2 ∷ inserts 0 0 5 ∷ finishes 0 ∷ inserts 0 1 12 ∷ finishes 0 ∷ deletes 0 1 ∷ finishes 0
+      ∷ inserts 0 1 13 ∷ finishes 0 ∷ [];
+  events = answered 1 4 Added ∷ answered 2 4 Full ∷ answered 0 8 Duplicate ∷ answered 2 6 Added ∷ answered 0 2 Full
+      ∷ answered 0 3 Duplicate ∷ answered 0 10 (Removed 11) ∷ answered 0 2 Full ∷ [];
+  taken = 126;
+  saves = 125;
+  chain = rising 125 2;
+}
 
 pub fullTable : List Worked
 fullTable = full ∷ []

@@ -1,0 +1,17 @@
+pub mod Tests
+pub mod Ways
+pub mod Sized
+pub mod Facts
+pub mod LineNumbers
+pub mod NextLine
+pub mod Sound
+pub mod SoundInsert
+pub mod SoundDelete
+pub mod SoundSearch
+pub mod SoundHelp
+pub mod EffectSound
+pub mod HelpsAfter
+pub mod Replaced
+pub mod WellFormedKept
+pub mod TurnSteps
+pub mod SavesKept
