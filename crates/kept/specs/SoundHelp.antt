@@ -10,7 +10,7 @@ use Rattle.model.specs.State.{rowAt, succOf}
 use Rattle.model.specs.Cas.{flaggedOnly, succAt}
 use Rattle.model.specs.Effects.{go}
 use Rattle.model.specs.HelpMarked.{helpMarked-1, helpMarked-2}
-use Rattle.model.specs.HelpFlagged.{withBacklink, helpFlagged-1, helpFlagged-2, tryMark-2, tryMark-3, tryMark-6, helpFlaggedReturns, helpFlagged-4, helpLine}
+use Rattle.model.specs.HelpFlagged.{withBacklink, helpFlagged-1, helpFlagged-2, tryMark-2, tryMark-3, tryMark-6, helpFlaggedReturns, helpFlagged-4-helpMarked-2, helpLine}
 use Rattle.model.specs.WellFormed.{isRow, heldInHelp, helpCallerNumbers, pendingNumbers, helpLineNumbers}
 use Rattle.model.specs.Choices.{if-known}
 use Rattle.model.specs.declared.Row.{Row}
@@ -87,9 +87,9 @@ module _ (rows : List Row) (good : GoodRows rows) (w count : ℕ) (last : Pendin
   unfolding tryMark-6
   tryMark-6-sound = if-known HelpSound (succAt rows (f .del) .mark) (λ _. read-on HelpMarked1 refl) (λ _. read-on TryMark2 refl)
 
-  helpFlagged-4-sound : (right : ℕ) → isRow right ≡ true → HelpSound (helpFlagged-4 rows count last f right)
-  unfolding helpFlagged-4 helpMarked-2
-  helpFlagged-4-sound right n =
+  helpFlagged-4-helpMarked-2-sound : (right : ℕ) → isRow right ≡ true → HelpSound (helpFlagged-4-helpMarked-2 rows count last f right)
+  unfolding helpFlagged-4-helpMarked-2 helpMarked-2
+  helpFlagged-4-helpMarked-2-sound right n =
       let unlinking : SuccNumbers (succOf right false false) = record { right = n; apart = refl } in
       let swapped = cas-written rows good (f .prev) (succOf (f .del) false true) _ prev unlinking in
       let (lastPrev, lastDel) = both (isRow (last .prev)) _ lastNumbers in
@@ -107,7 +107,7 @@ module _ (rows : List Row) (good : GoodRows rows) (w count : ℕ) (last : Pendin
   line-sound (TryMark3 right) n = tryMark-3-sound right n
   line-sound TryMark6 n = tryMark-6-sound
   line-sound HelpMarked1 n = read-on _ (good .numbers (f .del) .right)
-  line-sound (HelpMarked2 right) n = helpFlagged-4-sound right n
+  line-sound (HelpMarked2 right) n = helpFlagged-4-helpMarked-2-sound right n
 
 pub help-line-sound : (rows : List Row) → GoodRows rows → (w count : ℕ) (last : Pending) → pendingNumbers 0 last ≡ true
     → (f : HelpFrame) (l : HelpLine)

@@ -9,7 +9,7 @@ use Rattle.model.specs.Order.{hasKey}
 use Rattle.model.specs.Cas.{succAt}
 use Rattle.model.specs.Effects.{go}
 use Rattle.model.specs.HelpMarked.{helpMarked-1, helpMarked-2}
-use Rattle.model.specs.SearchFrom.{search-2, reaches, returnTo, searchFrom-10, searchFrom-2, searchFrom-7, searchFrom-1, searchFrom-3-next-mark, searchFrom-3-curr-mark, searchFrom-3-curr-right, searchFrom-4, searchFrom-6, searchFrom-9, searchLine}
+use Rattle.model.specs.SearchFrom.{search-2, reaches, searchFromReturns, searchFrom-10, searchFrom-2, searchFrom-7, searchFrom-1, searchFrom-3-next-mark, searchFrom-3-curr-mark, searchFrom-3-curr-right, searchFrom-4, searchFrom-6, searchFrom-9, searchLine}
 use Rattle.model.specs.WellFormed.{isRow, noRowHeld, heldInSearch, searchCallerNumbers, searchLineNumbers}
 use Rattle.model.specs.Choices.{if-known}
 use Rattle.model.specs.declared.Row.{Row}
@@ -38,8 +38,8 @@ module _ (rows : List Row) (good : GoodRows rows) (w count : ℕ) (none : count 
 
   return-sound : (key element curr next : ℕ) (caller : SearchCaller) → isRow curr ≡ true → isRow next ≡ true
       → searchCallerNumbers caller ≡ true
-      → Sound rows w (heldInSearch caller) count (returnTo rows key element curr next caller)
-  unfolding returnTo
+      → Sound rows w (heldInSearch caller) count (searchFromReturns rows key element curr next caller)
+  unfolding searchFromReturns
   return-sound key element curr next Search1 i j c = search-2-sound key curr
   return-sound key element curr next Insert1 i j c = insert-2-sound rows good w count none key element curr next i j
   return-sound key element curr next (Insert19 new) i j c = insert-20-sound rows good w count none key element new curr next c i j

@@ -67,6 +67,7 @@ module _ (c : Catalogue) (w budget : ℕ) (lent : Worker) (sized : Sized c) (eig
   turn-counted = record {
     taken = took .counts .taken;
     counted = took .counts .counted;
+    within = took .counts .within;
     led = led;
     returned = took .counts .returned;
     stopped = stopped-public inside turn-keeps (took .counts .stopped);

@@ -14,8 +14,8 @@ use Rattle.model.specs.Order.{hasKey}
 use Rattle.model.specs.Cas.{sameSucc, flaggedOnly, succAt, withSucc}
 use Rattle.model.specs.Insert.{insertLine, insert-2, insert-4, insert-6, insert-10-11, insert-15, insert-17, insert-18, insert-20, lowestFree}
 use Rattle.model.specs.Delete.{flagLine, delete-2, delete-7, tryFlag-2, tryFlag-4, tryFlag-5, tryFlag-9, tryFlag-10, tryFlag-12}
-use Rattle.model.specs.HelpFlagged.{helpLine, helpFlagged-1, helpFlagged-2, helpFlagged-4, helpFlaggedReturns, tryMark-2, tryMark-3, tryMark-6}
-use Rattle.model.specs.SearchFrom.{searchLine, searchFrom-1, searchFrom-2, searchFrom-3-next-mark, searchFrom-3-curr-mark, searchFrom-3-curr-right, searchFrom-4, searchFrom-6, searchFrom-7, searchFrom-9, searchFrom-10, returnTo, reaches, search-2}
+use Rattle.model.specs.HelpFlagged.{helpLine, helpFlagged-1, helpFlagged-2, helpFlagged-4-helpMarked-2, helpFlaggedReturns, tryMark-2, tryMark-3, tryMark-6}
+use Rattle.model.specs.SearchFrom.{searchLine, searchFrom-1, searchFrom-2, searchFrom-3-next-mark, searchFrom-3-curr-mark, searchFrom-3-curr-right, searchFrom-4, searchFrom-6, searchFrom-7, searchFrom-9, searchFrom-10, searchFromReturns, reaches, search-2}
 use Rattle.model.specs.WellFormed.{wellFormed}
 use Rattle.model.specs.Step.{step, stepWorker, applied, ninthHelp, workerAfter, stacked, effectOf, lineEffect, accept}
 use Rattle.model.specs.Choices.{if-both, if-known}
@@ -69,61 +69,61 @@ fresh (Help l f) = false
 abbrev NotFresh : Line → Type 0
 NotFresh l = fresh l ≡ false
 
-abbrev Answers : Effect → Type 0
-Answers e = NotFresh (e .line)
+abbrev NotFreshAfter : Effect → Type 0
+NotFreshAfter e = NotFresh (e .line)
 
 -- ---- What SearchFrom returns to ----
 
-search-2-answers : (rows : List Row) (k curr : ℕ) → Answers (search-2 rows k curr)
+search-2-answers : (rows : List Row) (k curr : ℕ) → NotFreshAfter (search-2 rows k curr)
 unfolding search-2
-search-2-answers rows k curr = if-both Answers (hasKey rows curr k) refl refl
+search-2-answers rows k curr = if-both NotFreshAfter (hasKey rows curr k) refl refl
 
-insert-2-answers : (rows : List Row) (k e prev next : ℕ) → Answers (insert-2 rows k e prev next)
+insert-2-answers : (rows : List Row) (k e prev next : ℕ) → NotFreshAfter (insert-2 rows k e prev next)
 unfolding insert-2
-insert-2-answers rows k e prev next = if-both Answers (hasKey rows prev k) refl refl
+insert-2-answers rows k e prev next = if-both NotFreshAfter (hasKey rows prev k) refl refl
 
-insert-20-answers : (rows : List Row) (k e new prev next : ℕ) → Answers (insert-20 rows k e new prev next)
+insert-20-answers : (rows : List Row) (k e new prev next : ℕ) → NotFreshAfter (insert-20 rows k e new prev next)
 unfolding insert-20
-insert-20-answers rows k e new prev next = if-both Answers (hasKey rows prev k) refl refl
+insert-20-answers rows k e new prev next = if-both NotFreshAfter (hasKey rows prev k) refl refl
 
-delete-2-answers : (rows : List Row) (k prev del : ℕ) → Answers (delete-2 rows k prev del)
+delete-2-answers : (rows : List Row) (k prev del : ℕ) → NotFreshAfter (delete-2 rows k prev del)
 unfolding delete-2
-delete-2-answers rows k prev del = if-both Answers (hasKey rows del k) refl refl
+delete-2-answers rows k prev del = if-both NotFreshAfter (hasKey rows del k) refl refl
 
-tryFlag-12-answers : (k target prev del : ℕ) → Answers (tryFlag-12 k target prev del)
+tryFlag-12-answers : (k target prev del : ℕ) → NotFreshAfter (tryFlag-12 k target prev del)
 unfolding tryFlag-12
-tryFlag-12-answers k target prev del = if-both Answers (eqb del target) refl refl
+tryFlag-12-answers k target prev del = if-both NotFreshAfter (eqb del target) refl refl
 
-returnTo-answers : (rows : List Row) (k e curr next : ℕ) (caller : SearchCaller) → Answers (returnTo rows k e curr next caller)
-unfolding returnTo
-returnTo-answers rows k e curr next Search1 = search-2-answers rows k curr
-returnTo-answers rows k e curr next Insert1 = insert-2-answers rows k e curr next
-returnTo-answers rows k e curr next (Insert19 new) = insert-20-answers rows k e new curr next
-returnTo-answers rows k e curr next Delete1 = delete-2-answers rows k curr next
-returnTo-answers rows k e curr next (TryFlag11 target) = tryFlag-12-answers k target curr next
+searchFromReturns-answers : (rows : List Row) (k e curr next : ℕ) (caller : SearchCaller) → NotFreshAfter (searchFromReturns rows k e curr next caller)
+unfolding searchFromReturns
+searchFromReturns-answers rows k e curr next Search1 = search-2-answers rows k curr
+searchFromReturns-answers rows k e curr next Insert1 = insert-2-answers rows k e curr next
+searchFromReturns-answers rows k e curr next (Insert19 new) = insert-20-answers rows k e new curr next
+searchFromReturns-answers rows k e curr next Delete1 = delete-2-answers rows k curr next
+searchFromReturns-answers rows k e curr next (TryFlag11 target) = tryFlag-12-answers k target curr next
 
 -- ---- SearchFrom ----
 
 module _ (rows : List Row) (f : SearchFrame) where
-  returns-answers : (next : ℕ) → Answers (searchFrom-10 rows f next)
+  returns-answers : (next : ℕ) → NotFreshAfter (searchFrom-10 rows f next)
   unfolding searchFrom-10
-  returns-answers next = returnTo-answers rows (f .key) (f .element) (f .curr) next (f .caller)
+  returns-answers next = searchFromReturns-answers rows (f .key) (f .element) (f .curr) next (f .caller)
 
-  line-2-answers : (next : ℕ) → Answers (searchFrom-2 rows f next)
+  line-2-answers : (next : ℕ) → NotFreshAfter (searchFrom-2 rows f next)
   unfolding searchFrom-2
-  line-2-answers next = if-both Answers (reaches rows f next) refl (returns-answers next)
+  line-2-answers next = if-both NotFreshAfter (reaches rows f next) refl (returns-answers next)
 
-  line-7-answers : (next : ℕ) → Answers (searchFrom-7 rows f next)
+  line-7-answers : (next : ℕ) → NotFreshAfter (searchFrom-7 rows f next)
   unfolding searchFrom-7
-  line-7-answers next = if-both Answers (reaches rows f next) refl (returns-answers next)
+  line-7-answers next = if-both NotFreshAfter (reaches rows f next) refl (returns-answers next)
 
-  search-answers : (l : SearchLine) → Answers (searchLine rows f l)
+  search-answers : (l : SearchLine) → NotFreshAfter (searchLine rows f l)
   unfolding searchLine searchFrom-1 searchFrom-3-next-mark searchFrom-3-curr-mark searchFrom-3-curr-right searchFrom-4 searchFrom-6 searchFrom-9
   search-answers SearchFrom1 = line-2-answers _
-  search-answers (SearchFrom3NextMark next) = if-both Answers (succAt rows next .mark) refl (line-7-answers next)
-  search-answers (SearchFrom3CurrMark next) = if-both Answers (succAt rows (f .curr) .mark) refl refl
-  search-answers (SearchFrom3CurrRight next) = if-both Answers (eqb (succAt rows (f .curr) .right) next) (line-7-answers next) refl
-  search-answers (SearchFrom4 next) = if-both Answers (eqb (succAt rows (f .curr) .right) next) refl refl
+  search-answers (SearchFrom3NextMark next) = if-both NotFreshAfter (succAt rows next .mark) refl (line-7-answers next)
+  search-answers (SearchFrom3CurrMark next) = if-both NotFreshAfter (succAt rows (f .curr) .mark) refl refl
+  search-answers (SearchFrom3CurrRight next) = if-both NotFreshAfter (eqb (succAt rows (f .curr) .right) next) (line-7-answers next) refl
+  search-answers (SearchFrom4 next) = if-both NotFreshAfter (eqb (succAt rows (f .curr) .right) next) refl refl
   search-answers (SearchFrom5HelpMarked1 next) = refl
   search-answers (SearchFrom5HelpMarked2 next right) = refl
   search-answers SearchFrom6 = refl
@@ -135,16 +135,16 @@ insert-15-answers : (f : InsertFrame) (new : ℕ) (result : Succ) → NotFresh (
 unfolding insert-15
 insert-15-answers f new result = if-both NotFresh (flaggedOnly result) refl refl
 
-insert-answers : (rows : List Row) (me : ℕ) (f : InsertFrame) (l : InsertLine) → Answers (insertLine rows me f l)
+insert-answers : (rows : List Row) (me : ℕ) (f : InsertFrame) (l : InsertLine) → NotFreshAfter (insertLine rows me f l)
 unfolding insertLine insert-4 insert-6 insert-10-11 insert-17 insert-18
-insert-answers rows me f (Insert4 next) = if-both Answers (ltb (lowestFree rows) 128) refl refl
-insert-answers rows me f (Insert6 next new) = if-both Answers (succAt rows (f .prev) .flag) refl refl
+insert-answers rows me f (Insert4 next) = if-both NotFreshAfter (ltb (lowestFree rows) 128) refl refl
+insert-answers rows me f (Insert6 next new) = if-both NotFreshAfter (succAt rows (f .prev) .flag) refl refl
 insert-answers rows me f (Insert11 next new) =
-    if-both Answers
+    if-both NotFreshAfter
     (sameSucc (succAt (set rows new (withSucc (rowAt rows new) (succOf next false false))) (f .prev)) (succOf next false false))
     refl
     (insert-15-answers f new _)
-insert-answers rows me f (Insert17 new) = if-both Answers (succAt rows (f .prev) .mark) refl refl
+insert-answers rows me f (Insert17 new) = if-both NotFreshAfter (succAt rows (f .prev) .mark) refl refl
 insert-answers rows me f (Insert18 new) = refl
 
 tryFlag-5-answers : (f : FlagFrame) (result : Succ) → NotFresh (tryFlag-5 f result)
@@ -153,11 +153,11 @@ tryFlag-5-answers f result =
     if-both NotFresh (sameSucc result (succOf (f .target) false false)) refl
     (if-both NotFresh (sameSucc result (succOf (f .target) false true)) refl refl)
 
-flag-answers : (rows : List Row) (f : FlagFrame) (l : FlagLine) → Answers (flagLine rows f l)
+flag-answers : (rows : List Row) (f : FlagFrame) (l : FlagLine) → NotFreshAfter (flagLine rows f l)
 unfolding flagLine tryFlag-2 tryFlag-4 tryFlag-9 tryFlag-10
-flag-answers rows f TryFlag2 = if-both Answers (sameSucc (succAt rows (f .prev)) (succOf (f .target) false true)) refl refl
+flag-answers rows f TryFlag2 = if-both NotFreshAfter (sameSucc (succAt rows (f .prev)) (succOf (f .target) false true)) refl refl
 flag-answers rows f TryFlag4 = tryFlag-5-answers f _
-flag-answers rows f TryFlag9 = if-both Answers (succAt rows (f .prev) .mark) refl refl
+flag-answers rows f TryFlag9 = if-both NotFreshAfter (succAt rows (f .prev) .mark) refl refl
 flag-answers rows f TryFlag10 = refl
 
 delete-7-answers : (rows : List Row) (target : ℕ) (result : Bool) → NotFresh (delete-7 rows target result)
@@ -170,20 +170,20 @@ returns-to-caller rows k e (Insert8 prev new) = refl
 returns-to-caller rows k e (Insert16 prev new) = refl
 returns-to-caller rows k e (Delete6 target result) = delete-7-answers rows target result
 
-help-answers : (rows : List Row) (count : ℕ) (last : Pending) (f : HelpFrame) (l : HelpLine) → Answers (helpLine rows count last f l)
-unfolding helpLine helpFlagged-1 helpFlagged-2 helpFlagged-4 tryMark-2 tryMark-3 tryMark-6
+help-answers : (rows : List Row) (count : ℕ) (last : Pending) (f : HelpFrame) (l : HelpLine) → NotFreshAfter (helpLine rows count last f l)
+unfolding helpLine helpFlagged-1 helpFlagged-2 helpFlagged-4-helpMarked-2 tryMark-2 tryMark-3 tryMark-6
 help-answers rows count last f HelpFlagged1 = refl
-help-answers rows count last f HelpFlagged2 = if-both Answers (succAt rows (f .del) .mark) refl refl
+help-answers rows count last f HelpFlagged2 = if-both NotFreshAfter (succAt rows (f .del) .mark) refl refl
 help-answers rows count last f TryMark2 = refl
-help-answers rows count last f (TryMark3 right) = if-both Answers (flaggedOnly (succAt rows (f .del))) refl refl
-help-answers rows count last f TryMark6 = if-both Answers (succAt rows (f .del) .mark) refl refl
+help-answers rows count last f (TryMark3 right) = if-both NotFreshAfter (flaggedOnly (succAt rows (f .del))) refl refl
+help-answers rows count last f TryMark6 = if-both NotFreshAfter (succAt rows (f .del) .mark) refl refl
 help-answers rows count last f HelpMarked1 = refl
 help-answers rows count last f (HelpMarked2 right) =
-    if-both Answers (eqb count 0) (returns-to-caller rows (f .key) (f .element) (f .caller)) refl
+    if-both NotFreshAfter (eqb count 0) (returns-to-caller rows (f .key) (f .element) (f .caller)) refl
 
 -- ---- A step ----
 
-line-answers : (rows : List Row) (me count : ℕ) (last : Pending) (l : Line) → idle l ≡ false → Answers (lineEffect rows me count last l)
+line-answers : (rows : List Row) (me count : ℕ) (last : Pending) (l : Line) → idle l ≡ false → NotFreshAfter (lineEffect rows me count last l)
 unfolding lineEffect
 line-answers rows me count last (Idle a) busy = cc
 line-answers rows me count last (Search l f) busy = search-answers rows f l
@@ -216,7 +216,7 @@ module _ (c : Catalogue) (w : ℕ) where
   abbrev Finishes : Stepped → Type 0
   Finishes s = s .verdict ≡ Accepted → NotFresh (workerAt (s .state .workers) w .line)
 
-  applied-finishes : (e : Effect) → idle (workerAt (c .workers) w .line) ≡ false → Answers e
+  applied-finishes : (e : Effect) → idle (workerAt (c .workers) w .line) ≡ false → NotFreshAfter e
       → Finishes (applied c w (workerAt (c .workers) w) e)
   unfolding applied
   applied-finishes e busy answers =

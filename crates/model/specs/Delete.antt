@@ -1,4 +1,4 @@
--- Delete, figure 4, and TryFlag, figure 5.
+-- Delete, figure 4, and TryFlag, figure 5. A definition stands before its use, so TryFlag's lines 5 to 8 come before its line 4.
 use Prim.Native.Nat.{ℕ}
 use mathlib.Core.Bool.{Bool, true, false}
 use mathlib.Core.List.{List}
@@ -31,14 +31,14 @@ delete-6 f result = callHelpFlagged (f .key) 0 (f .prev) (f .target) (Delete6 (f
 unfoldable pub delete-7 : List Row → ℕ → Bool → Line
 delete-7 rows target result = if result then Idle (Removed (rowAt rows target .element)) else Idle Absent
 
--- Line 2 reads prev's successor: (target,0,1) returns false with prev (line 3). Else line 4.
+-- TryFlag, line 2 reads prev's successor: (target,0,1) returns false with prev (line 3). Else line 4.
 unfoldable pub tryFlag-2 : List Row → FlagFrame → Effect
 tryFlag-2 rows f =
     if sameSucc (succAt rows (f .prev)) (succOf (f .target) false true)
     then go (delete-6 f false)
     else go (Flag TryFlag4 f)
 
--- Lines 5 to 8: success returns true with prev; a result of (target,0,1) returns false with prev. Else line 9.
+-- TryFlag, lines 5 to 8: success returns true with prev; a result of (target,0,1) returns false with prev. Else line 9.
 unfoldable pub tryFlag-5 : FlagFrame → Succ → Line
 tryFlag-5 f result =
     if sameSucc result (succOf (f .target) false false)
@@ -47,26 +47,26 @@ tryFlag-5 f result =
     then delete-6 f false
     else Flag TryFlag9 f
 
--- Line 4: C&S prev from (target,0,0) to (target,0,1).
+-- TryFlag, line 4: C&S prev from (target,0,0) to (target,0,1).
 unfoldable pub tryFlag-4 : List Row → FlagFrame → Effect
 tryFlag-4 rows f =
     goWriting
     (cas rows (f .prev) (succOf (f .target) false false) (succOf (f .target) false true))
     (tryFlag-5 f (succAt rows (f .prev)))
 
--- Line 9 reads prev's mark: while it is set, line 10. Else line 11: SearchFrom(k − ε, prev), k being the request's key.
+-- TryFlag, line 9 reads prev's mark: while it is set, line 10. Else line 11: SearchFrom(k − ε, prev), k being the request's key.
 unfoldable pub tryFlag-9 : List Row → FlagFrame → Effect
 tryFlag-9 rows f =
     if succAt rows (f .prev) .mark
     then go (Flag TryFlag10 f)
     else go (callSearchFrom (f .key) 0 (f .prev) (TryFlag11 (f .target)))
 
--- Line 10 reads prev's backlink as prev, and line 9 reads again.
+-- TryFlag, line 10 reads prev's backlink as prev, and line 9 reads again.
 unfoldable pub tryFlag-10 : List Row → FlagFrame → Effect
 tryFlag-10 rows f =
     go (Flag TryFlag9 (record { key = f .key; prev = rowAt rows (f .prev) .backlink; target = f .target }))
 
--- Lines 12 and 13, after line 11's SearchFrom returned (prev, del): another row than the target returns false with no row, and so
+-- TryFlag, lines 12 and 13, after line 11's SearchFrom returned (prev, del): another row than the target returns false with no row, and so
 -- Absent (Delete, lines 5 to 8). Else line 2 again.
 unfoldable pub tryFlag-12 : ℕ → ℕ → ℕ → ℕ → Effect
 tryFlag-12 key target prev del = if eqb del target then go (callTryFlag key prev target) else finish Absent

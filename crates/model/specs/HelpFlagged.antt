@@ -62,10 +62,14 @@ helpFlaggedReturns rows key element (Insert8 prev new) = insert-19 key element p
 helpFlaggedReturns rows key element (Insert16 prev new) = Insert (Insert17 new) (insertFrame key element prev)
 helpFlaggedReturns rows key element (Delete6 target result) = delete-7 rows target result
 
--- HelpFlagged's line 4, the second access of its HelpMarked; then HelpFlagged returns: to the last pending help, which runs again
+-- HelpFlagged, line 4: HelpMarked(prev, del), its first access.
+abbrev pub helpFlagged-4-helpMarked-1 : List Row → HelpFrame → Effect
+helpFlagged-4-helpMarked-1 rows f = go (Help (HelpMarked2 (helpMarked-1 rows (f .del))) f)
+
+-- HelpFlagged, line 4, its HelpMarked's second access. Then HelpFlagged returns: to the last pending help, which runs again
 -- at TryMark's line 6, or to its caller if none is pending.
-unfoldable pub helpFlagged-4 : List Row → ℕ → Pending → HelpFrame → ℕ → Effect
-helpFlagged-4 rows count last f right =
+unfoldable pub helpFlagged-4-helpMarked-2 : List Row → ℕ → Pending → HelpFrame → ℕ → Effect
+helpFlagged-4-helpMarked-2 rows count last f right =
     if eqb count 0
     then goWriting (helpMarked-2 rows (f .prev) (f .del) right) (helpFlaggedReturns rows (f .key) (f .element) (f .caller))
     else record {
@@ -81,5 +85,5 @@ helpLine rows count last f HelpFlagged2 = helpFlagged-2 rows f
 helpLine rows count last f TryMark2 = tryMark-2 rows f
 helpLine rows count last f (TryMark3 right) = tryMark-3 rows f right
 helpLine rows count last f TryMark6 = tryMark-6 rows f
-helpLine rows count last f HelpMarked1 = go (Help (HelpMarked2 (helpMarked-1 rows (f .del))) f)
-helpLine rows count last f (HelpMarked2 right) = helpFlagged-4 rows count last f right
+helpLine rows count last f HelpMarked1 = helpFlagged-4-helpMarked-1 rows f
+helpLine rows count last f (HelpMarked2 right) = helpFlagged-4-helpMarked-2 rows count last f right

@@ -1,4 +1,4 @@
--- Insert, figure 5.
+-- Insert, figure 5. A definition stands before its use, so lines 2 and 20 come first, where SearchFrom has returned.
 use Prim.Native.Nat.{ℕ, zero, suc, _+_}
 use mathlib.Core.Bool.{Bool, true, false}
 use mathlib.Core.List.{List}
@@ -44,13 +44,14 @@ isFree Free = true
 isFree (Held w) = false
 isFree Linked = false
 
--- the lowest free row among those from i on, of which n are left; 128 if there is none
+-- the lowest free row among the n rows from i on; the row behind them if there is none
 unfoldable pub lowestFreeFrom : List Row → ℕ → ℕ → ℕ
 lowestFreeFrom rows zero i = i
 lowestFreeFrom rows (suc n) i =
     let later = lowestFreeFrom rows n (i + 1) in
     if isFree (rowAt rows i .standing) then i else later
 
+-- the lowest free row among 2 to 127; 128 if there is none
 unfoldable pub lowestFree : List Row → ℕ
 lowestFree rows = lowestFreeFrom rows 126 2
 

@@ -1,4 +1,4 @@
--- SearchFrom(k, curr) and Search, figure 3.
+-- SearchFrom(k, curr) and Search, figure 3. A definition stands before its use, so the private lines 10, 2 and 7 come first.
 use Prim.Native.Nat.{ℕ}
 use mathlib.Core.Bool.{Bool, true, false}
 use mathlib.Core.List.{List}
@@ -38,15 +38,15 @@ unfoldable pub reaches : List Row → SearchFrame → ℕ → Bool
 reaches rows f next = if strict (f .caller) then keyBelow rows next (f .key) else keyAtMost rows next (f .key)
 
 -- Line 10 returns (curr, next) to the caller.
-unfoldable pub returnTo : List Row → ℕ → ℕ → ℕ → ℕ → SearchCaller → Effect
-returnTo rows key element curr next Search1 = search-2 rows key curr
-returnTo rows key element curr next Insert1 = insert-2 rows key element curr next
-returnTo rows key element curr next (Insert19 new) = insert-20 rows key element new curr next
-returnTo rows key element curr next Delete1 = delete-2 rows key curr next
-returnTo rows key element curr next (TryFlag11 target) = tryFlag-12 key target curr next
+unfoldable pub searchFromReturns : List Row → ℕ → ℕ → ℕ → ℕ → SearchCaller → Effect
+searchFromReturns rows key element curr next Search1 = search-2 rows key curr
+searchFromReturns rows key element curr next Insert1 = insert-2 rows key element curr next
+searchFromReturns rows key element curr next (Insert19 new) = insert-20 rows key element new curr next
+searchFromReturns rows key element curr next Delete1 = delete-2 rows key curr next
+searchFromReturns rows key element curr next (TryFlag11 target) = tryFlag-12 key target curr next
 
 unfoldable pub searchFrom-10 : List Row → SearchFrame → ℕ → Effect
-searchFrom-10 rows f next = returnTo rows (f .key) (f .element) (f .curr) next (f .caller)
+searchFrom-10 rows f next = searchFromReturns rows (f .key) (f .element) (f .curr) next (f .caller)
 
 -- Line 2: while next.key ≤ k, line 3. Else line 10.
 unfoldable pub searchFrom-2 : List Row → SearchFrame → ℕ → Effect
@@ -86,6 +86,14 @@ searchFrom-4 rows f next =
     then go (Search (SearchFrom5HelpMarked1 next) f)
     else go (Search SearchFrom6 f)
 
+-- Line 5's HelpMarked(curr, next), its first access.
+abbrev pub searchFrom-5-helpMarked-1 : List Row → SearchFrame → ℕ → Effect
+searchFrom-5-helpMarked-1 rows f next = go (Search (SearchFrom5HelpMarked2 next (helpMarked-1 rows next)) f)
+
+-- Line 5's HelpMarked(curr, next), its second access. Then line 6.
+abbrev pub searchFrom-5-helpMarked-2 : List Row → SearchFrame → ℕ → ℕ → Effect
+searchFrom-5-helpMarked-2 rows f next right = goWriting (helpMarked-2 rows (f .curr) next right) (Search SearchFrom6 f)
+
 -- Line 6 reads curr.right as next, and line 3 again.
 unfoldable pub searchFrom-6 : List Row → SearchFrame → Effect
 searchFrom-6 rows f = go (Search (SearchFrom3NextMark (succAt rows (f .curr) .right)) f)
@@ -94,15 +102,14 @@ searchFrom-6 rows f = go (Search (SearchFrom3NextMark (succAt rows (f .curr) .ri
 unfoldable pub searchFrom-9 : List Row → SearchFrame → Effect
 searchFrom-9 rows f = searchFrom-2 rows f (succAt rows (f .curr) .right)
 
--- Which definition belongs to which line. The two accesses of line 5 are HelpMarked's.
+-- Which definition belongs to which line.
 unfoldable pub searchLine : List Row → SearchFrame → SearchLine → Effect
 searchLine rows f SearchFrom1 = searchFrom-1 rows f
 searchLine rows f (SearchFrom3NextMark next) = searchFrom-3-next-mark rows f next
 searchLine rows f (SearchFrom3CurrMark next) = searchFrom-3-curr-mark rows f next
 searchLine rows f (SearchFrom3CurrRight next) = searchFrom-3-curr-right rows f next
 searchLine rows f (SearchFrom4 next) = searchFrom-4 rows f next
-searchLine rows f (SearchFrom5HelpMarked1 next) = go (Search (SearchFrom5HelpMarked2 next (helpMarked-1 rows next)) f)
-searchLine rows f (SearchFrom5HelpMarked2 next right) =
-    goWriting (helpMarked-2 rows (f .curr) next right) (Search SearchFrom6 f)
+searchLine rows f (SearchFrom5HelpMarked1 next) = searchFrom-5-helpMarked-1 rows f next
+searchLine rows f (SearchFrom5HelpMarked2 next right) = searchFrom-5-helpMarked-2 rows f next right
 searchLine rows f SearchFrom6 = searchFrom-6 rows f
 searchLine rows f SearchFrom9 = searchFrom-9 rows f

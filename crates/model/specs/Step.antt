@@ -35,7 +35,7 @@ refuse r c = record { verdict = Refused r; state = c }
 abbrev pub accept : Catalogue → Stepped
 accept c = record { verdict = Accepted; state = c }
 
--- What the line of worker `me` does to the rows and to the worker.
+-- What the line of worker `me` does to the rows and to the worker. An idle worker's step is refused, so its case is never used.
 unfoldable pub lineEffect : List Row → ℕ → ℕ → Pending → Line → Effect
 lineEffect rows me count last (Idle a) = go (Idle a)
 lineEffect rows me count last (Search l f) = searchLine rows f l
@@ -44,7 +44,7 @@ lineEffect rows me count last (Flag l f) = flagLine rows f l
 lineEffect rows me count last (Help l f) = helpLine rows count last f l
 
 unfoldable pub effectOf : List Row → ℕ → Worker → Effect
-effectOf rows me k = lineEffect rows me (k .count) (helpAt (k .helps) (k .count - 1)) (k .line)
+effectOf rows me worker = lineEffect rows me (worker .count) (helpAt (worker .helps) (worker .count - 1)) (worker .line)
 
 -- the rows after a write
 unfoldable pub written : List Row → Write → List Row
@@ -54,16 +54,16 @@ written rows (TwoRows i r j s) = set (set rows i r) j s
 
 -- the pending helps after a line; the slot of a popped help becomes zero
 unfoldable pub stacked : Worker → Line → Stack → Worker
-stacked k line Keep = record { line = line; helps = k .helps; count = k .count }
-stacked k line (Push h) = record { line = line; helps = set (k .helps) (k .count) h; count = k .count + 1 }
-stacked k line Pop = record { line = line; helps = set (k .helps) (k .count - 1) noHelp; count = k .count - 1 }
+stacked worker line Keep = record { line = line; helps = worker .helps; count = worker .count }
+stacked worker line (Push h) = record { line = line; helps = set (worker .helps) (worker .count) h; count = worker .count + 1 }
+stacked worker line Pop = record { line = line; helps = set (worker .helps) (worker .count - 1) noHelp; count = worker .count - 1 }
 
 -- On finishing, all other registers of the worker become zero.
 unfoldable pub workerAfter : Worker → Effect → Worker
-workerAfter k e =
+workerAfter worker e =
     if idle (e .line)
     then record { line = e .line; helps = noHelps; count = 0 }
-    else stacked k (e .line) (e .stack)
+    else stacked worker (e .line) (e .stack)
 
 -- the effect asks for a ninth pending help
 unfoldable pub ninthHelp : ℕ → Stack → Bool
@@ -72,16 +72,16 @@ ninthHelp count (Push h) = leb 8 count
 ninthHelp count Pop = false
 
 unfoldable pub applied : Catalogue → ℕ → Worker → Effect → Stepped
-applied c w k e =
-    if ninthHelp (k .count) (e .stack)
+applied c w worker e =
+    if ninthHelp (worker .count) (e .stack)
     then refuse NinthHelp c
-    else accept (record { rows = written (c .rows) (e .write); workers = set (c .workers) w (workerAfter k e) })
+    else accept (record { rows = written (c .rows) (e .write); workers = set (c .workers) w (workerAfter worker e) })
 
 -- a step of a worker of a state that is known to be well formed
 unfoldable pub stepWorker : Catalogue → ℕ → Stepped
 stepWorker c w =
-    let k = workerAt (c .workers) w in
-    if idle (k .line) then refuse WorkerIdle c else applied c w k (effectOf (c .rows) w k)
+    let worker = workerAt (c .workers) w in
+    if idle (worker .line) then refuse WorkerIdle c else applied c w worker (effectOf (c .rows) w worker)
 
 -- Step, refusals 1, 4, 3, 5.
 unfoldable pub step : Catalogue → ℕ → Stepped
@@ -103,7 +103,7 @@ firstLine code key element =
     else callSearchFrom key 0 head Delete1
 
 abbrev pub withWorker : Catalogue → ℕ → Worker → Catalogue
-withWorker c w k = record { rows = c .rows; workers = set (c .workers) w k }
+withWorker c w worker = record { rows = c .rows; workers = set (c .workers) w worker }
 
 -- Submit, refusals 1, 4, 6, 2.
 unfoldable pub submit : Catalogue → ℕ → ℕ → ℕ → ℕ → Stepped

@@ -18,7 +18,7 @@ abbrev pub accepted : Verdict → Bool
 accepted Accepted = true
 accepted (Refused r) = false
 
--- the end of a turn of worker w after n steps: the record that was lent is the worker's own
+-- the end of a turn of worker w after n steps: the lent record comes back as the worker's record of the end state
 abbrev pub turnEnds : ℕ → Verdict → ℕ → Catalogue → Turned
 turnEnds w v n c = record { verdict = v; steps = n; state = c; lent = workerAt (c .workers) w }
 

@@ -1,6 +1,6 @@
 -- What the count of a turn is: taking single steps that often, each accepted, leads to the turn's end state; and the turn stops where
 -- the budget is spent, the worker is idle, or the next step is refused with 5.
-use Prim.Native.Nat.{ℕ, zero, suc, _+_}
+use Prim.Native.Nat.{ℕ, zero, suc, _+_, _≤_}
 use mathlib.Core.Bool.{Bool, true, false, not, true≢false}
 use mathlib.Core.Path.{_≡_, refl, sym, _∙_, ap}
 use mathlib.Core.Logic.{_⊎_, inl, inr}
@@ -37,6 +37,7 @@ pub data Stopped (next : Catalogue → Stepped) (w budget taken : ℕ) (t : Turn
 pub record Counts (next : Catalogue → Stepped) (w budget n : ℕ) (c : Catalogue) (t : Turned) : Type 0 where
   pub taken : ℕ
   pub counted : t .steps ≡ n + taken
+  pub within : taken ≤ budget
   pub led : Steps next taken c (t .state)
   pub returned : t .lent ≡ workerAt (t .state .workers) w
   pub stopped : Stopped next w budget taken t
@@ -65,15 +66,15 @@ accepted-true (Refused r) e = cc
 pub turnFrom-counts : (w left n : ℕ) (c : Catalogue) → Counts (unchecked w) w left n c (turnFrom w left n c)
 unfolding turnFrom
 turnFrom-counts w zero n c =
-    record { taken = 0; counted = omega arith; led = no-step; returned = refl; stopped = spent refl refl }
+    record { taken = 0; counted = omega arith; within = omega arith; led = no-step; returned = refl; stopped = spent refl refl }
 turnFrom-counts w (suc left) n c =
     if-known (Counts (unchecked w) w (suc left) n c) (idle (workerAt (c .workers) w .line))
-    (λ rests. record { taken = 0; counted = omega arith; led = no-step; returned = refl; stopped = finished rests refl })
+    (λ rests. record { taken = 0; counted = omega arith; within = omega arith; led = no-step; returned = refl; stopped = finished rests refl })
     (λ busy. if-known (Counts (unchecked w) w (suc left) n c) (accepted (stepWorker c w .verdict))
     (λ goes. after (accepted-true _ goes) (turnFrom-counts w left (n + 1) (stepWorker c w .state)))
     (λ refuses.
     let five = busy-only-ninth c w busy refuses in
-    record { taken = 0; counted = omega arith; led = no-step; returned = refl; stopped = ninth five five }))
+    record { taken = 0; counted = omega arith; within = omega arith; led = no-step; returned = refl; stopped = ninth five five }))
   where
     longer : {taken : ℕ} {t : Turned} → Stopped (unchecked w) w left taken t → Stopped (unchecked w) w (suc left) (suc taken) t
     longer (spent e v) = spent (ap suc e) v
@@ -85,6 +86,7 @@ turnFrom-counts w (suc left) n c =
     after goes r = record {
       taken = suc (r .taken);
       counted = omega (arith, r .counted);
+      within = omega (arith, r .within);
       led = one-more goes (r .led);
       returned = r .returned;
       stopped = longer (r .stopped);

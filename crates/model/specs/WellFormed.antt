@@ -1,5 +1,5 @@
 -- When a state is well formed: a test with one named part for each clause of document 01. That a busy worker's line belongs to its
--- request, or to a routine which that request calls, is said by the types: each case of `Line` names its caller.
+-- request, or to a routine which that request calls, is said by the types: each case of `Line` is one request's own, or names its caller.
 use Prim.Native.Nat.{ℕ, suc}
 use mathlib.Core.Bool.{Bool, true, false, not, _&&_}
 use mathlib.Core.List.{List, [], _∷_}
@@ -111,10 +111,10 @@ insideHelpFlagged (Flag l f) = false
 insideHelpFlagged (Help l f) = true
 
 abbrev pub fewHelps : Worker → Bool
-fewHelps k = leb (k .count) 8
+fewHelps worker = leb (worker .count) 8
 
 abbrev pub helpsInside : Worker → Bool
-helpsInside k = if insideHelpFlagged (k .line) then true else eqb (k .count) 0
+helpsInside worker = if insideHelpFlagged (worker .line) then true else eqb (worker .count) 0
 
 -- A row is held by worker w exactly when w is in an unfinished insert past line 4 and names that row.
 
@@ -170,8 +170,8 @@ rowWell workers i r =
     rowNumbers r && notBoth (r .succ) && endsLinked i (r .standing) && holderNames workers i (r .standing)
 
 unfoldable pub workerWell : List Row → ℕ → Worker → Bool
-workerWell rows w k =
-    lineNumbers (k .line) && allFrom pendingNumbers 0 (k .helps) && fewHelps k && helpsInside k && namedIsHeld rows w (k .line)
+workerWell rows w worker =
+    lineNumbers (worker .line) && allFrom pendingNumbers 0 (worker .helps) && fewHelps worker && helpsInside worker && namedIsHeld rows w (worker .line)
 
 unfoldable pub wellFormed : Catalogue → Bool
 wellFormed c = allFrom (rowWell (c .workers)) 0 (c .rows) && allFrom (workerWell (c .rows)) 0 (c .workers)

@@ -88,7 +88,7 @@ pub enum SearchLine {
     SearchFrom9,
 }
 
-// The element is an insert's; with any other request it is 0.
+// The element is an insert's. A submit of any other request stores 0 there, and nothing reads it.
 pub struct SearchFrame {
     pub key: u32,
     pub element: u32,

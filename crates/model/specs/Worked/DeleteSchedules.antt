@@ -25,6 +25,17 @@ try-flag-2-second-round = record {
   chain = at 3 10 ∷ [];
 }
 
+-- TryFlag 2 reads a flag that stands for another row than the target: line 4 is tried.
+abbrev try-flag-2-another-row : Worked
+try-flag-2-another-row = record {
+  start = save 20 200 ∷ [];
+  script = deletes 0 20 ∷ takes 0 1 ∷ inserts 1 10 100 ∷ finishes 1 ∷ deletes 1 10 ∷ takes 1 3 ∷ finishes 0 ∷ finishes 1 ∷ [];
+  events = answered 1 4 Added ∷ answered 0 16 (Removed 200) ∷ answered 1 10 (Removed 100) ∷ [];
+  taken = 2;
+  saves = 0;
+  chain = [];
+}
+
 -- TryFlag 9, 10: the predecessor is marked, its backlink leads to the head, the target is found again and Removed.
 abbrev try-flag-10 : Worked
 try-flag-10 = record {
@@ -137,6 +148,6 @@ marked-with-another-right = record {
 }
 
 unfoldable pub deleteSchedules : List Worked
-deleteSchedules = try-flag-7 ∷ try-flag-2-second-round ∷ try-flag-10 ∷ try-flag-10-not-the-head ∷ try-flag-10-twice
-    ∷ try-flag-13 ∷ try-flag-13-same-key ∷ line-11-from-prev ∷ flagged-for-another-row ∷ line-11-helps-marked
-    ∷ line-1-helps-marked ∷ marked-with-another-right ∷ []
+deleteSchedules = try-flag-7 ∷ try-flag-2-second-round ∷ try-flag-2-another-row ∷ try-flag-10 ∷ try-flag-10-not-the-head
+    ∷ try-flag-10-twice ∷ try-flag-13 ∷ try-flag-13-same-key ∷ line-11-from-prev ∷ flagged-for-another-row
+    ∷ line-11-helps-marked ∷ line-1-helps-marked ∷ marked-with-another-right ∷ []

@@ -1,4 +1,4 @@
--- Schedules at the edges: key 0, the largest key, the full catalogue, refused calls.
+-- Schedules at the edges: key 0, the largest key, the lowest free row, a marked row that is still counted, refused calls.
 use mathlib.Core.List.{List, [], _∷_}
 use Rattle.model.specs.Worked.{Worked, save, searches, inserts, deletes, takes, finishes, answered, refused, at}
 use Rattle.model.specs.declared.Answer.the-variants.{Found, Absent, Added, Duplicate, Removed}

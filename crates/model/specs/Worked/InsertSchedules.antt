@@ -60,6 +60,18 @@ flag-at-6 = record {
   chain = at 3 5 ∷ [];
 }
 
+-- Line 6 of an insert meets a flag that stands for another row than the one that its search found: line 8 helps that row.
+abbrev flag-at-6-for-another-row : Worked
+flag-at-6-for-another-row = record {
+  start = [];
+  script = inserts 0 20 200 ∷ takes 0 2 ∷ inserts 1 10 100 ∷ finishes 1 ∷ deletes 1 10 ∷ takes 1 3 ∷ finishes 0 ∷ finishes 1
+      ∷ [];
+  events = answered 1 4 Added ∷ answered 0 13 Added ∷ answered 1 7 (Removed 100) ∷ [];
+  taken = 2;
+  saves = 1;
+  chain = at 2 20 ∷ [];
+}
+
 -- Duplicate at line 20: the held row is given back, and the next insert takes it.
 abbrev duplicate-at-20 : Worked
 duplicate-at-20 = record {
@@ -139,6 +151,6 @@ marked-with-another-right = record {
 }
 
 unfoldable pub insertSchedules : List Worked
-insertSchedules = two-backlinks ∷ one-backlink ∷ flag-between-6-and-11 ∷ flag-for-another-row ∷ flag-at-6 ∷ duplicate-at-20
-    ∷ held-row-off-the-chain ∷ insert-between ∷ line-19-from-prev ∷ marked-at-6 ∷ marked-on-the-way ∷ marked-with-another-right
-    ∷ []
+insertSchedules = two-backlinks ∷ one-backlink ∷ flag-between-6-and-11 ∷ flag-for-another-row ∷ flag-at-6
+    ∷ flag-at-6-for-another-row ∷ duplicate-at-20 ∷ held-row-off-the-chain ∷ insert-between ∷ line-19-from-prev ∷ marked-at-6
+    ∷ marked-on-the-way ∷ marked-with-another-right ∷ []
