@@ -1,0 +1,1 @@
+// Theorems about every state that calls can reach, in specs/. No code.
