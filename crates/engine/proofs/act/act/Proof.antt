@@ -1,0 +1,27 @@
+-- TODO
+use borrow.Author.Needs.{needs}
+use Rattle.model.specs.Step.{lineEffect}
+use Rattle.engine.specs.Tests.{tests}
+use Rattle.engine.proofs.act.act.Statement.{statement}
+use Rattle.engine.proofs.act.act.Tie as tie
+
+pub act-spec : {M : Type 1} → statement M
+unfolding lineEffect
+act-spec =
+    tie.close
+    (tie.spec
+    (λ c. search needs)
+    (λ c κs. search needs)
+    (λ c. search needs)
+    (λ c κs. search needs)
+    (λ c. search needs)
+    (λ c κs. search needs)
+    (λ c. search needs)
+    (λ c κs. search needs)
+    (λ c. search needs)
+    (λ c κs. search needs)
+    (λ c rows size at-first at-second lowest. simp (tests, ← c .go .ensures, c .before .before .line .given .1) cc)
+    (λ c rows size at-first at-second lowest. simp (tests, ← c .search-line .ensures rows (simp (c .before .before .line2 .given .1) at at-first) (simp (c .before .before .line2 .given .1) at at-second), c .before .before .line2 .given .1) cc)
+    (λ c rows size at-first at-second lowest. simp (tests, ← c .insert-line .ensures rows size (simp (c .before .before .line3 .given .1) at at-first) (simp (c .before .before .line3 .given .1) at at-second) (simp (c .before .before .line3 .given .1) at lowest), c .before .before .line3 .given .1) cc)
+    (λ c rows size at-first at-second lowest. simp (tests, ← c .flag-line .ensures rows (simp (c .before .before .line4 .given .1) at at-first), c .before .before .line4 .given .1) cc)
+    (λ c rows size at-first at-second lowest. simp (tests, ← c .help-line .ensures rows (simp (c .before .before .line5 .given .1) at at-first) (simp (c .before .before .line5 .given .1) at at-second), c .before .before .line5 .given .1) cc))

@@ -1,0 +1,17 @@
+-- TODO
+use borrow.Author.Needs.{needs}
+use Rattle.model.specs.Cas.{sameSucc}
+use Rattle.engine.specs.Tests.{tests}
+use Rattle.engine.proofs.cas.same_succ.Statement.{statement}
+use Rattle.engine.proofs.cas.same_succ.Tie as tie
+
+pub same-succ-spec : {M : Type 1} → statement M
+unfolding sameSucc
+same-succ-spec =
+    tie.close
+    (tie.spec
+    (λ c κs. search needs)
+    (λ c κs. search needs)
+    (λ c. simp (tests, c .if2 .taken, c .before .if1 .taken, ← c .before .before .before .before .same-bit2 .ensures, ← c .before .before .before .before .before .same-bit .ensures) cc)
+    (λ c. simp (tests, c .if2 .left, c .before .if1 .taken, ← c .before .before .before .before .same-bit2 .ensures, ← c .before .before .before .before .before .same-bit .ensures) cc)
+    (λ c. simp (tests, c .if1 .left, ← c .before .before .before .same-bit2 .ensures, ← c .before .before .before .before .same-bit .ensures) cc))

@@ -1,0 +1,18 @@
+-- TODO
+use borrow.Author.Needs.{needs}
+use Rattle.model.specs.Delete.{delete-2}
+use Rattle.engine.specs.Tests.{tests}
+use Rattle.engine.proofs.delete.delete_2.Statement.{statement}
+use Rattle.engine.proofs.delete.delete_2.Tie as tie
+
+pub delete-2-spec : {M : Type 1} → statement M
+unfolding delete-2
+delete-2-spec =
+    tie.close
+    (tie.spec
+    (λ c κs. search needs)
+    (λ c κs. search needs)
+    (λ c κs. search needs)
+    (λ c rows at-row. simp (tests, at-row, ← c .go .ensures, ← c .before .call-try-flag .ensures, c .before .before .if1 .taken, ← c .before .before .before .has-key .ensures rows at-row) cc)
+    (λ c κs. search needs)
+    (λ c rows at-row. simp (tests, at-row, ← c .finish .ensures, c .before .if1 .left, ← c .before .before .has-key .ensures rows at-row) cc))

@@ -1,0 +1,17 @@
+-- TODO
+use borrow.Author.Needs.{needs}
+use Rattle.model.specs.HelpFlagged.{helpFlagged-2}
+use Rattle.model.specs.Cas.{succAt}
+use Rattle.engine.specs.Tests.{tests}
+use Rattle.engine.proofs.help_flagged.help_flagged_2.Statement.{statement}
+use Rattle.engine.proofs.help_flagged.help_flagged_2.Tie as tie
+
+pub help-flagged-2-spec : {M : Type 1} → statement M
+unfolding helpFlagged-2
+help-flagged-2-spec =
+    tie.close
+    (tie.spec
+    (λ c κs. search needs)
+    (λ c rows at-row. simp (tests, at-row, succAt, ← c .go .ensures, c .before .if1 .taken) cc)
+    (λ c κs. search needs)
+    (λ c rows at-row. simp (tests, at-row, succAt, ← c .go2 .ensures, c .before .if1 .left) cc))

@@ -1,0 +1,21 @@
+-- TODO
+use borrow.Author.Needs.{needs}
+use Rattle.model.specs.HelpFlagged.{helpFlaggedReturns}
+use Rattle.engine.specs.Tests.{tests}
+use Rattle.engine.proofs.help_flagged.help_flagged_returns.Statement.{statement}
+use Rattle.engine.proofs.help_flagged.help_flagged_returns.Tie as tie
+
+pub help-flagged-returns-spec : {M : Type 1} → statement M
+unfolding helpFlaggedReturns
+help-flagged-returns-spec =
+    tie.close
+    (tie.spec
+    (λ c. search needs)
+    (λ c κs. search needs)
+    (λ c. search needs)
+    (λ c κs. search needs)
+    (λ c. search needs)
+    (λ c κs. search needs)
+    (λ c rows at-removed. simp (tests, ← c .insert-19 .ensures, c .before .before .caller .given .1) cc)
+    (λ c rows at-removed. simp (tests, ← c .insert-frame .ensures, c .before .before .caller2 .given .1) cc)
+    (λ c rows at-removed. simp (tests, ← c .delete-7 .ensures rows (simp (c .before .before .caller3 .given .1) at at-removed), c .before .before .caller3 .given .1) cc))

@@ -1,0 +1,15 @@
+-- TODO
+use borrow.Author.Needs.{needs}
+use Rattle.model.specs.HelpMarked.{helpMarked-2}
+use Rattle.engine.proofs.help_marked.help_marked_2.Statement.{statement}
+use Rattle.engine.proofs.help_marked.help_marked_2.Tie as tie
+
+pub help-marked-2-spec : {M : Type 1} → statement M
+unfolding helpMarked-2
+help-marked-2-spec =
+    tie.close
+    (tie.spec
+    (λ c κs. search needs)
+    (λ c κs. search needs)
+    (λ c κs. search needs)
+    (λ c rows at-row. cc (c .cas .ensures rows at-row)))

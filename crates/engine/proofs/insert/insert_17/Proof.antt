@@ -1,0 +1,18 @@
+-- TODO
+use borrow.Author.Needs.{needs}
+use Rattle.model.specs.Insert.{insert-17}
+use Rattle.model.specs.Cas.{succAt}
+use Rattle.engine.specs.Tests.{tests}
+use Rattle.engine.proofs.insert.insert_17.Statement.{statement}
+use Rattle.engine.proofs.insert.insert_17.Tie as tie
+
+pub insert-17-spec : {M : Type 1} → statement M
+unfolding insert-17
+insert-17-spec =
+    tie.close
+    (tie.spec
+    (λ c κs. search needs)
+    (λ c rows at-row. simp (tests, at-row, succAt, ← c .go .ensures, c .before .if1 .taken) cc)
+    (λ c κs. search needs)
+    (λ c κs. search needs)
+    (λ c rows at-row. simp (tests, at-row, succAt, ← c .go2 .ensures, ← c .before .insert-19 .ensures, c .before .before .if1 .left) cc))

@@ -1,0 +1,16 @@
+-- TODO
+use borrow.Author.Needs.{needs}
+use Rattle.model.specs.Insert.{insert-4}
+use Rattle.engine.specs.Tests.{tests}
+use Rattle.engine.proofs.insert.insert_4.Statement.{statement}
+use Rattle.engine.proofs.insert.insert_4.Tie as tie
+
+pub insert-4-spec : {M : Type 1} → statement M
+unfolding insert-4
+insert-4-spec =
+    tie.close
+    (tie.spec
+    (λ c κs. search needs)
+    (λ c rows lowest. simp (tests, ← lowest, ← c .go-writing .ensures, c .before .if1 .taken) cc)
+    (λ c κs. search needs)
+    (λ c rows lowest. simp (tests, ← lowest, ← c .finish .ensures, c .before .if1 .left) cc))

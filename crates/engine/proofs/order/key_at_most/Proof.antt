@@ -1,0 +1,14 @@
+-- TODO
+use Rattle.model.specs.Order.{keyAtMost}
+use Rattle.engine.specs.Tests.{tests}
+use Rattle.engine.proofs.order.key_at_most.Statement.{statement}
+use Rattle.engine.proofs.order.key_at_most.Tie as tie
+
+pub key-at-most-spec : {M : Type 1} → statement M
+unfolding keyAtMost
+key-at-most-spec =
+    tie.close
+    (tie.spec
+    (λ c rows at-row. simp (tests, at-row, c .if1 .taken) cc)
+    (λ c rows at-row. simp (tests, at-row, c .if2 .taken, c .before .if1 .left) cc)
+    (λ c rows at-row. simp (tests, at-row, c .before .if2 .left, c .before .before .if1 .left) cc))

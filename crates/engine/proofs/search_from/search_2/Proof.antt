@@ -1,0 +1,17 @@
+-- TODO
+use borrow.Author.Needs.{needs}
+use Rattle.model.specs.SearchFrom.{search-2}
+use Rattle.engine.specs.Tests.{tests}
+use Rattle.engine.proofs.search_from.search_2.Statement.{statement}
+use Rattle.engine.proofs.search_from.search_2.Tie as tie
+
+pub search-2-spec : {M : Type 1} → statement M
+unfolding search-2
+search-2-spec =
+    tie.close
+    (tie.spec
+    (λ c κs. search needs)
+    (λ c κs. search needs)
+    (λ c rows at-here. simp (tests, at-here, ← c .finish .ensures, c .before .if1 .taken, ← c .before .before .has-key .ensures rows at-here) cc)
+    (λ c κs. search needs)
+    (λ c rows at-here. simp (tests, at-here, ← c .finish2 .ensures, c .before .if1 .left, ← c .before .before .has-key .ensures rows at-here) cc))

@@ -1,0 +1,17 @@
+-- TODO
+use borrow.Author.Needs.{needs}
+use Rattle.model.specs.SearchFrom.{searchFrom-3-curr-mark}
+use Rattle.model.specs.Cas.{succAt}
+use Rattle.engine.specs.Tests.{tests}
+use Rattle.engine.proofs.search_from.search_from_3_curr_mark.Statement.{statement}
+use Rattle.engine.proofs.search_from.search_from_3_curr_mark.Tie as tie
+
+pub search-from-3-curr-mark-spec : {M : Type 1} → statement M
+unfolding searchFrom-3-curr-mark
+search-from-3-curr-mark-spec =
+    tie.close
+    (tie.spec
+    (λ c κs. search needs)
+    (λ c rows at-here. simp (tests, at-here, succAt, ← c .go .ensures, c .before .if1 .taken) cc)
+    (λ c κs. search needs)
+    (λ c rows at-here. simp (tests, at-here, succAt, ← c .go2 .ensures, c .before .if1 .left) cc))

@@ -1,0 +1,13 @@
+-- TODO
+use borrow.Author.Needs.{needs}
+use Rattle.model.specs.SearchFrom.{searchFrom-6}
+use Rattle.engine.proofs.search_from.search_from_6.Statement.{statement}
+use Rattle.engine.proofs.search_from.search_from_6.Tie as tie
+
+pub search-from-6-spec : {M : Type 1} → statement M
+unfolding searchFrom-6
+search-from-6-spec =
+    tie.close
+    (tie.spec
+    (λ c κs. search needs)
+    (λ c rows at-here. cc))

@@ -1,0 +1,18 @@
+-- TODO
+use borrow.Author.Needs.{needs}
+use Rattle.model.specs.Step.{ninthHelp}
+use Rattle.engine.specs.Tests.{tests}
+use Rattle.engine.proofs.steps.ninth_help.Statement.{statement}
+use Rattle.engine.proofs.steps.ninth_help.Tie as tie
+
+pub ninth-help-spec : {M : Type 1} → statement M
+unfolding ninthHelp
+ninth-help-spec =
+    tie.close
+    (tie.spec
+    (λ c. search needs)
+    (λ c. search needs)
+    (λ c. search needs)
+    (λ c. simp (tests, c .enum-told .given .1) cc)
+    (λ c. simp (tests, c .enum-told2 .given .1) cc)
+    (λ c. simp (tests, c .enum-told3 .given .1) cc))

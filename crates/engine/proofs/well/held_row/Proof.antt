@@ -1,0 +1,25 @@
+-- TODO
+use borrow.Author.Needs.{needs}
+use Rattle.model.specs.WellFormed.{heldRow}
+use Rattle.engine.specs.Tests.{tests}
+use Rattle.engine.proofs.well.held_row.Statement.{statement}
+use Rattle.engine.proofs.well.held_row.Tie as tie
+
+pub held-row-spec : {M : Type 1} → statement M
+unfolding heldRow
+held-row-spec =
+    tie.close
+    (tie.spec
+    (λ c. search needs)
+    (λ c. search needs)
+    (λ c κs. search needs)
+    (λ c. search needs)
+    (λ c κs. search needs)
+    (λ c. search needs)
+    (λ c. search needs)
+    (λ c κs. search needs)
+    (λ c. simp (tests, c .enum-told .given .1) cc)
+    (λ c. simp (tests, ← c .held-in-search .ensures, c .before .before .line .given .1) cc)
+    (λ c. simp (tests, ← c .held-in-insert .ensures, c .before .before .line2 .given .1) cc)
+    (λ c. simp (tests, c .enum-told2 .given .1) cc)
+    (λ c. simp (tests, ← c .held-in-help .ensures, c .before .before .line3 .given .1) cc))

@@ -1,0 +1,23 @@
+-- TODO
+use borrow.Author.Needs.{needs}
+use Rattle.engine.specs.Tests.{tests}
+use Rattle.engine.proofs.well.help_caller_numbers.Statement.{statement}
+use Rattle.engine.proofs.well.help_caller_numbers.Tie as tie
+
+pub help-caller-numbers-spec : {M : Type 1} → statement M
+help-caller-numbers-spec =
+    tie.close
+    (tie.spec
+    (λ c. search needs)
+    (λ c κs. search needs)
+    (λ c κs. search needs)
+    (λ c κs. search needs)
+    (λ c. search needs)
+    (λ c κs. search needs)
+    (λ c κs. search needs)
+    (λ c κs. search needs)
+    (λ c. search needs)
+    (λ c κs. search needs)
+    (λ c. simp (tests, ← c .both .ensures, ← c .before .is-row2 .ensures, ← c .before .before .is-row .ensures, c .before .before .before .before .caller .given .1) cc)
+    (λ c. simp (tests, ← c .both2 .ensures, ← c .before .is-row4 .ensures, ← c .before .before .is-row3 .ensures, c .before .before .before .before .caller2 .given .1) cc)
+    (λ c. simp (tests, ← c .is-row5 .ensures, c .before .before .caller3 .given .1) cc))

@@ -1,0 +1,26 @@
+-- TODO
+use borrow.Author.Needs.{needs}
+use Rattle.engine.specs.Tests.{tests}
+use Rattle.engine.proofs.well.help_line_numbers.Statement.{statement}
+use Rattle.engine.proofs.well.help_line_numbers.Tie as tie
+
+pub help-line-numbers-spec : {M : Type 1} → statement M
+help-line-numbers-spec =
+    tie.close
+    (tie.spec
+    (λ c. search needs)
+    (λ c. search needs)
+    (λ c. search needs)
+    (λ c. search needs)
+    (λ c κs. search needs)
+    (λ c. search needs)
+    (λ c. search needs)
+    (λ c. search needs)
+    (λ c κs. search needs)
+    (λ c. search needs)
+    (λ c. search needs)
+    (λ c. search needs)
+    (λ c. simp (tests, ← c .is-row .ensures, c .before .before .line .given .1) cc)
+    (λ c. search needs)
+    (λ c. search needs)
+    (λ c. simp (tests, ← c .is-row2 .ensures, c .before .before .line2 .given .1) cc))

@@ -1,0 +1,16 @@
+-- TODO
+use borrow.Author.Needs.{needs}
+use Rattle.model.specs.WellFormed.{namedIsHeld}
+use Rattle.engine.specs.Tests.{tests}
+use Rattle.engine.proofs.well.named_is_held.Statement.{statement}
+use Rattle.engine.proofs.well.named_is_held.Tie as tie
+
+pub named-is-held-spec : {M : Type 1} → statement M
+unfolding namedIsHeld
+named-is-held-spec =
+    tie.close
+    (tie.spec
+    (λ c κs. search needs)
+    (λ c rows at-named. simp (tests, c .if1 .taken, ← c .before .held-row .ensures) cc)
+    (λ c κs. search needs)
+    (λ c rows at-named. simp (tests, ← c .held-by .ensures, c .before .if1 .left, ← c .before .before .held-row .ensures) cc))

@@ -1,0 +1,13 @@
+-- TODO
+use borrow.Author.Needs.{needs}
+use Rattle.engine.proofs.well.pending_numbers.Statement.{statement}
+use Rattle.engine.proofs.well.pending_numbers.Tie as tie
+
+pub pending-numbers-spec : {M : Type 1} → statement M
+pending-numbers-spec =
+    tie.close
+    (tie.spec
+    (λ c κs. search needs)
+    (λ c κs. search needs)
+    (λ c κs. search needs)
+    (λ c. cc))

@@ -1,0 +1,13 @@
+-- TODO
+use borrow.Author.Needs.{needs}
+use Rattle.engine.proofs.well.row_numbers.Statement.{statement}
+use Rattle.engine.proofs.well.row_numbers.Tie as tie
+
+pub row-numbers-spec : {M : Type 1} → statement M
+row-numbers-spec =
+    tie.close
+    (tie.spec
+    (λ c κs. search needs)
+    (λ c κs. search needs)
+    (λ c κs. search needs)
+    (λ c. cc))

@@ -1,0 +1,22 @@
+-- TODO
+use borrow.Author.Needs.{needs}
+use Rattle.engine.specs.Tests.{tests}
+use Rattle.engine.proofs.well.search_caller_numbers.Statement.{statement}
+use Rattle.engine.proofs.well.search_caller_numbers.Tie as tie
+
+pub search-caller-numbers-spec : {M : Type 1} → statement M
+search-caller-numbers-spec =
+    tie.close
+    (tie.spec
+    (λ c. search needs)
+    (λ c. search needs)
+    (λ c. search needs)
+    (λ c κs. search needs)
+    (λ c. search needs)
+    (λ c. search needs)
+    (λ c κs. search needs)
+    (λ c. search needs)
+    (λ c. search needs)
+    (λ c. simp (tests, ← c .is-row .ensures, c .before .before .caller .given .1) cc)
+    (λ c. search needs)
+    (λ c. simp (tests, ← c .is-row2 .ensures, c .before .before .caller2 .given .1) cc))

@@ -1,0 +1,7 @@
+pub mod Tests
+pub mod Rows
+pub mod Slots
+pub mod Loops
+pub mod Steps
+pub mod Turns
+pub mod OneOutcome
