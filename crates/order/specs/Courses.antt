@@ -1,0 +1,167 @@
+-- The course of a request: it runs up to a position, or has ended before. A request has one finish, a worker has one request at a time,
+-- and a row that a running delete removes stays the same.
+use Prim.Native.Nat.{ℕ, zero, suc, _≤_, _<_}
+use mathlib.Core.Bool.{true, false}
+use mathlib.Core.Path.{_≡_, ap, sym, _∙_, subst}
+use mathlib.Core.Logic.{_≢_, _⊎_, inl, inr}
+use mathlib.Core.List.{List}
+use native.Mathlib.Omega.{arith}
+use native.Mathlib.Decide.{ℕ-discrete}
+use Rattle.order.specs.Basics.{clash, Compared, less, equal, more, compared}
+use Rattle.order.specs.Lawful.{noRowRemoved}
+use Rattle.order.specs.Demand.{stateAt, lineAt, Accepts, Request, BusySince, Finished}
+use Rattle.order.specs.Time.{Ready, any-default, Happening, nothing-happens, submits, steps, happening, submit-taken}
+use Rattle.order.specs.Running.{removedAt, Running, Ends, begins, Continues, runs, ends-now, continues}
+use Rattle.model.specs.State.{workerAt, idle}
+use Rattle.model.specs.Run.{run}
+use Rattle.model.specs.declared.Worker.{Worker}
+use Rattle.model.specs.declared.Catalogue.{Catalogue}
+use Rattle.model.specs.declared.Answer.{Answer}
+use Rattle.model.specs.declared.Line.{Line}
+use Rattle.model.specs.declared.Line.the-variants.{Idle}
+use Rattle.model.specs.declared.Call.{Call}
+use Rattle.model.specs.declared.Call.the-variants.{Submit, Step}
+
+-- ---- One call at a position, one finish ----
+
+-- two accounts of the request submitted at one position
+pub record SameRequest (w code key element w' code' key' element' : ℕ) : Type 0 where
+  pub worker : w' ≡ w
+  pub code-same : code' ≡ code
+  pub key-same : key' ≡ key
+  pub element-same : element' ≡ element
+
+-- a worker that is idle is not busy
+pub idle-not-busy : {l : Line} {a : Answer} → l ≡ Idle a → idle l ≡ false → ⊥
+idle-not-busy is busy = clash (ap idle is) busy
+
+module _ {start : Catalogue} {calls : List Call} where
+  pub same-call : (i : ℕ) (x y : Call) → Accepts start calls i x → Accepts start calls i y → x ≡ y
+  same-call i x y a b = sym (a .made) ∙ any-default calls i x y (a .inside) ∙ b .made
+
+  pub same-stepper : (i v w : ℕ) → Accepts start calls i (Step v) → Accepts start calls i (Step w) → v ≡ w
+  same-stepper i v w a b = let e = same-call i (Step v) (Step w) a b in cc
+
+  pub same-request : (s w code key element w' code' key' element' : ℕ) → Request start calls s w code key element
+      → Request start calls s w' code' key' element' → SameRequest w code key element w' code' key' element'
+  same-request s w code key element w' code' key' element' a b =
+      let e = same-call s (Submit w code key element) (Submit w' code' key' element') a b in
+      record { worker = cc; code-same = cc; key-same = cc; element-same = cc }
+
+  pub same-finish : (s w f g : ℕ) (a b : Answer) → Finished start calls s w f a → Finished start calls s w g b → (f ≡ g) × (a ≡ b)
+  same-finish s w f g a b x y = go (compared f g)
+    where
+      go : Compared f g → (f ≡ g) × (a ≡ b)
+      go (less h) = absurd (idle-not-busy (x .answered) (y .busy (suc f) (omega (arith, x .later)) (omega arith)))
+      go (more h) = absurd (idle-not-busy (y .answered) (x .busy (suc g) (omega (arith, y .later)) (omega arith)))
+      go (equal e) =
+          let same : lineAt start calls (suc g) w ≡ Idle a = subst (λ (i : ℕ). lineAt start calls (suc i) w ≡ Idle a) e (x .answered) in
+          (e, cc (y .answered))
+
+module _ {top : ℕ} {start : Catalogue} {calls : List Call} (ready : Ready top start calls) where
+  -- ---- Up to a position ----
+
+  pub data Course (s w code key element u : ℕ) : Type 0 where
+    under-way : Running ready s w code key element u → Course s w code key element u
+    over : (f : ℕ) (a : Answer) → f < u → Ends ready s w code key element f a → Course s w code key element u
+
+  further : (s w code key element u : ℕ) → Course s w code key element u → Course s w code key element (suc u)
+  further s w code key element u (over f a h e) = over f a (omega arith) e
+  further s w code key element u (under-way r) = go (continues ready s w code key element u r)
+    where
+      go : Continues ready s w code key element u → Course s w code key element (suc u)
+      go (runs r' same) = under-way r'
+      go (ends-now a e) = over u a (omega arith) e
+
+  pub course : (s w code key element : ℕ) → Request start calls s w code key element → (u : ℕ) → s < u → Course s w code key element u
+  course s w code key element r zero h = absurd (omega arith)
+  course s w code key element r (suc u) h = go (ℕ-discrete s u) (λ q. course s w code key element r u q)
+    where
+      go : Dec (s ≡ u) → (s < u → Course s w code key element u) → Course s w code key element (suc u)
+      go (yes e) before = subst (λ (i : ℕ). Course s w code key element (suc i)) e (under-way (begins ready s w code key element r))
+      go (no e) before = further s w code key element u (before (omega arith))
+
+  -- a request that ended before is not running
+  pub ended-not-running : (s w f u : ℕ) (a : Answer) → Finished start calls s w f a → f < u → BusySince start calls s w u → ⊥
+  ended-not-running s w f u a x h busy = idle-not-busy (x .answered) (busy (suc f) (omega (arith, x .later)) h)
+
+  pub ended : (s w code key element f : ℕ) (a : Answer) → Request start calls s w code key element → Finished start calls s w f a
+      → Ends ready s w code key element f a
+  ended s w code key element f a r x = go (course s w code key element r (suc f) (omega (arith, x .later)))
+    where
+      go : Course s w code key element (suc f) → Ends ready s w code key element f a
+      go (under-way q) = absurd (ended-not-running s w f (suc f) a x (omega arith) (q .busy))
+      go (over g b h e) =
+          let same = same-finish s w g f b a (e .finished) x in
+          subst (λ (i : ℕ). Ends ready s w code key element i a) (same .0) (subst (Ends ready s w code key element g) (same .1) e)
+
+  -- a running request was running before
+  pub ran : (s w code key element j u : ℕ) → Running ready s w code key element u → s < j → j ≤ u → Running ready s w code key element j
+  ran s w code key element j u r h k = go (course s w code key element (r .request) j h)
+    where
+      go : Course s w code key element j → Running ready s w code key element j
+      go (under-way q) = q
+      go (over f a l e) = absurd (ended-not-running s w f u a (e .finished) (omega arith) (r .busy))
+
+  -- ---- A worker's request ----
+
+  pub record Current (w u : ℕ) : Type 0 where
+    pub request : ℕ
+    pub code : ℕ
+    pub key : ℕ
+    pub element : ℕ
+    pub running : Running ready request w code key element u
+
+  pub current : (u w : ℕ) → (idle (lineAt start calls u w) ≡ true) ⊎ Current w u
+  unfolding stateAt run
+  current zero w = inl (ready .at-rest w)
+  current (suc u) w = go (current u w) (happening ready u)
+    where
+      kept : lineAt start calls (suc u) w ≡ lineAt start calls u w → idle (lineAt start calls u w) ≡ true
+          → (idle (lineAt start calls (suc u) w) ≡ true) ⊎ Current w (suc u)
+      kept same h = inl (rw same h)
+
+      go : (idle (lineAt start calls u w) ≡ true) ⊎ Current w u → Happening start calls u
+          → (idle (lineAt start calls (suc u) w) ≡ true) ⊎ Current w (suc u)
+      go (inr c) happens =
+          elim (continues ready (c .request) w (c .code) (c .key) (c .element) u (c .running)) [
+            runs r same ↦ inr (record { request = c .request; code = c .code; key = c .key; element = c .element; running = r })
+          | ends-now a e ↦ inl (ap idle (e .finished .answered)) ]
+      go (inl h) (nothing-happens e) = kept (ap (λ (c : Catalogue). workerAt (c .workers) w .line) e) h
+      go (inl h) (submits v code key element a taken) = elim (ℕ-discrete w v) [
+          yes e ↦ inr (record { request = u; code = code; key = key; element = element; running =
+            begins ready u w code key element (subst (λ (x : ℕ). Request start calls u x code key element) (sym e) a) })
+        | no e ↦ kept (ap (λ (k : Worker). k .line) (taken .worker .others w e)) h ]
+      go (inl h) (steps v a taken) = elim (ℕ-discrete w v) [
+          yes e ↦ absurd (clash h (ap (λ (x : ℕ). idle (lineAt start calls u x)) e ∙ taken .was-busy))
+        | no e ↦ kept (ap (λ (k : Worker). k .line) (taken .worker .others w e)) h ]
+
+  -- two requests of one worker do not run at one time
+  overlap : (s w code key element s' code' key' element' u : ℕ) → Running ready s w code key element u → Running ready s' w code' key' element' u → s < s' → ⊥
+  overlap s w code key element s' code' key' element' u r r' h =
+      clash (submit-taken ready s' w code' key' element' (r' .request) .was-idle) (r .busy s' h (omega (arith, r' .since)))
+
+  pub alone : (s w code key element s' code' key' element' u : ℕ) → Running ready s w code key element u → Running ready s' w code' key' element' u → s ≡ s'
+  alone s w code key element s' code' key' element' u r r' = go (compared s s')
+    where
+      go : Compared s s' → s ≡ s'
+      go (less h) = absurd (overlap s w code key element s' code' key' element' u r r' h)
+      go (equal e) = e
+      go (more h) = absurd (overlap s' w code' key' element' s code key element u r' r h)
+
+  -- ---- The row that a running delete removes ----
+
+  pub removes-on : (s w code key element j u y : ℕ) → Running ready s w code key element u → s < j → j ≤ u → removedAt ready j w ≡ y → y ≢ noRowRemoved
+      → removedAt ready u w ≡ y
+  removes-on s w code key element j zero y r h k is some = absurd (omega arith)
+  removes-on s w code key element j (suc u) y r h k is some = go (ℕ-discrete j (suc u))
+      (λ q. removes-on s w code key element j u y (ran s w code key element u (suc u) r (omega arith) (omega arith)) h q is some)
+    where
+      step : s < u → removedAt ready u w ≡ y → removedAt ready (suc u) w ≡ y
+      step q before = elim (continues ready s w code key element u (ran s w code key element u (suc u) r q (omega arith))) [
+          ends-now a e ↦ absurd (ended-not-running s w u (suc u) a (e .finished) (omega arith) (r .busy))
+        | runs r' same ↦ elim same [ inl none ↦ absurd (some (sym before ∙ none)) | inr stays ↦ stays ∙ before ] ]
+
+      go : Dec (j ≡ suc u) → (j ≤ u → removedAt ready u w ≡ y) → removedAt ready (suc u) w ≡ y
+      go (yes e) before = subst (λ (i : ℕ). removedAt ready i w ≡ y) e is
+      go (no e) before = step (omega arith) (before (omega arith))

@@ -1,0 +1,208 @@
+-- Removals over time: a delete that has set the flag for its row removes it at the step that marks the row, and it finishes with Removed
+-- afterwards or is a removal that is still unfinished at the end.
+use Prim.Native.Nat.{ℕ, suc, _≤_, _<_}
+use mathlib.Core.Bool.{Bool, true, false}
+use mathlib.Core.Path.{_≡_, refl, ap, sym, _∙_, subst}
+use mathlib.Core.Logic.{_≢_, _⊎_, inl, inr}
+use mathlib.Core.List.{List, [], _∷_}
+use native.Mathlib.Omega.{arith}
+use lib.Dec.{eqb}
+use lib.ListN.{length}
+use borrow.Author.Tests.{eqb-false, leb-true}
+use Rattle.order.specs.Basics.{clash}
+use Rattle.order.specs.Table.{Table, markOf}
+use Rattle.order.specs.StructureFacts.{above-not-head, unflagged-right-unmarked}
+use Rattle.order.specs.Facts.{Fact, SaveOf, AllHold, helpFacts, pendingFacts, facts}
+use Rattle.order.specs.Stack.{stackOf}
+use Rattle.order.specs.Timeline.{marked-within}
+use Rattle.order.specs.PlainMap.{Operation, operation, search, insert, delete}
+use Rattle.order.specs.Lawful.{noRowRemoved, removedRow, removedInHelp}
+use Rattle.order.specs.Memory.{Answered, RemovesRow, operationOf, helpOperation}
+use Rattle.order.specs.Demand.{stateAt, lineAt, Request, SetFlag, Removing}
+use Rattle.order.specs.Time.{Ready, sound-at, structure-at, mover-at, move-at, submit-taken}
+use Rattle.order.specs.Running.{TableAt, removedAt, Claimed, Running, Ends}
+use Rattle.order.specs.Courses.{ran}
+use Rattle.model.specs.State.{workerAt}
+use Rattle.model.specs.Step.{isRequest}
+use Rattle.model.specs.declared.Pending.{Pending}
+use Rattle.model.specs.declared.Catalogue.{Catalogue}
+use Rattle.model.specs.declared.Answer.{Answer}
+use Rattle.model.specs.declared.Answer.the-variants.{NoAnswer, Found, Absent, Added, Duplicate, Removed, Full}
+use Rattle.model.specs.declared.HelpCaller.{HelpCaller}
+use Rattle.model.specs.declared.HelpCaller.the-variants.{Insert8, Insert16, Delete6}
+use Rattle.model.specs.declared.HelpLine.{HelpLine}
+use Rattle.model.specs.declared.HelpLine.the-variants.{HelpFlagged1, HelpFlagged2, TryMark2, TryMark3, TryMark6, HelpMarked1, HelpMarked2}
+use Rattle.model.specs.declared.Line.{Line}
+use Rattle.model.specs.declared.Line.the-variants.{Idle, Search, Insert, Flag, Help}
+use Rattle.model.specs.declared.Call.{Call}
+
+-- ---- A delete's row has its key ----
+
+-- the line belongs to the delete of a key, and the row that it removes is a save of that key
+pub record RemovesSave (R : Table) (o : Operation) (row : ℕ) : Type 0 where
+  pub key : ℕ
+  pub is-delete : o ≡ delete key
+  pub save : SaveOf R row key
+
+module _ (top w : ℕ) (R : Table) where
+  under-help : (l : HelpLine) (prev del : ℕ) (rest : List Fact) → AllHold top w R (helpFacts l prev del rest) → AllHold top w R rest
+  under-help HelpFlagged1 prev del rest known = known .1
+  under-help HelpFlagged2 prev del rest known = known .1
+  under-help TryMark2 prev del rest known = known .1
+  under-help (TryMark3 right) prev del rest known = known .1
+  under-help TryMark6 prev del rest known = known .1
+  under-help HelpMarked1 prev del rest known = known .1 .1
+  under-help (HelpMarked2 right) prev del rest known = known .1 .1
+
+  caller-removes : (key element : ℕ) (caller : HelpCaller) (hs : List Pending) (prev del : ℕ) → AllHold top w R (pendingFacts key element caller hs prev del)
+      → removedInHelp caller ≢ noRowRemoved → RemovesSave R (helpOperation key element caller) (removedInHelp caller)
+  caller-removes key element caller (h ∷ hs) prev del (same, (helping, known)) some = caller-removes key element caller hs (h .prev) (h .del) known some
+  caller-removes key element (Insert8 row new) [] prev del known some = absurd (some refl)
+  caller-removes key element (Insert16 row new) [] prev del known some = absurd (some refl)
+  caller-removes key element (Delete6 target true) [] prev del (same, (save, _)) some = record { key = key; is-delete = refl; save = save }
+  caller-removes key element (Delete6 target false) [] prev del known some = absurd (some refl)
+
+  removed-save : (l : Line) (hs : List Pending) → AllHold top w R (facts l hs) → removedRow l ≢ noRowRemoved → RemovesSave R (operationOf l) (removedRow l)
+  removed-save (Idle a) hs known some = absurd (some refl)
+  removed-save (Search l f) hs known some = absurd (some refl)
+  removed-save (Insert l f) hs known some = absurd (some refl)
+  removed-save (Flag l f) hs known some = absurd (some refl)
+  removed-save (Help l f) hs (fits, known) some =
+      caller-removes (f .key) (f .element) (f .caller) hs (f .prev) (f .del) (under-help l (f .prev) (f .del) _ known) some
+
+-- ---- The code of a delete ----
+
+pub record DeleteCode (code key k : ℕ) : Type 0 where
+  pub three : code ≡ 3
+  pub key-is : key ≡ k
+
+pub delete-code : (code key element k : ℕ) → isRequest code ≡ true → operation code key element ≡ delete k → DeleteCode code key k
+unfolding operation
+delete-code code key element k known is = go (eqb code 0) refl (eqb code 1) refl (eqb code 2) refl
+  where
+    go : (a : Bool) → eqb code 0 ≡ a → (b : Bool) → eqb code 1 ≡ b → (c : Bool) → eqb code 2 ≡ c → DeleteCode code key k
+    go true z b p c q = absurd (clash known (rw z refl))
+    go false z true p c q = let e : search key ≡ delete k = rw (p, operation) at is in let apart : _≡_ {A = ℕ} 0 1 = cc in absurd (omega arith)
+    go false z false p true q =
+        let e : insert key element ≡ delete k = rw (p, q, operation) at is in let apart : _≡_ {A = ℕ} 0 1 = cc in absurd (omega arith)
+    go false z false p false q =
+        let e : delete key ≡ delete k = rw (p, q, operation) at is in
+        let not-none : code ≢ 0 = eqb-false code 0 z in
+        let not-search : code ≢ 1 = eqb-false code 1 p in
+        let not-insert : code ≢ 2 = eqb-false code 2 q in
+        let small : code ≤ 3 = leb-true code 3 (rw z at known) in
+        record { three = omega arith; key-is = cc }
+
+module _ {top : ℕ} {start : Catalogue} {calls : List Call} (ready : Ready top start calls) where
+  pub removes-save : (s w code key element u y : ℕ) → Running ready s w code key element u → removedAt ready u w ≡ y → y ≢ noRowRemoved
+      → RemovesSave (TableAt ready u) (operation code key element) y
+  removes-save s w code key element u y r is some =
+      rw (r .operation-is, is) at
+      (removed-save top w (TableAt ready u) (lineAt start calls u w) (stackOf (workerAt (stateAt start calls u .workers) w))
+        (sound-at ready u .known w) (λ e. some (sym is ∙ e)))
+
+  -- ---- What a removal answers ----
+
+  answer-removed : (w t u : ℕ) (R' : Table) (y k : ℕ) (a : Answer) → y ≢ noRowRemoved → Answered w (TableAt ready) t u R' y (delete k) a
+      → (e : ℕ) × (a ≡ Removed e) × RemovesRow (TableAt ready u) y e
+  answer-removed w t u R' y k NoAnswer some h = absurd h
+  answer-removed w t u R' y k (Found e) some h = absurd h
+  answer-removed w t u R' y k Absent some h = absurd (some (h .0))
+  answer-removed w t u R' y k Added some h = absurd h
+  answer-removed w t u R' y k Duplicate some h = absurd h
+  answer-removed w t u R' y k (Removed e) some h = (e, refl, h)
+  answer-removed w t u R' y k Full some h = absurd h
+
+  -- a delete that removes row y ends with Removed and the element of y
+  pub removal-answer : (s w code key element f y : ℕ) (a : Answer) → Ends ready s w code key element f a → removedAt ready f w ≡ y → y ≢ noRowRemoved
+      → a ≡ Removed (TableAt ready f y .element)
+  removal-answer s w code key element f y a e is some =
+      let m = removes-save s w code key element f y (e .running) is some in
+      let r = answer-removed w (suc s) f (TableAt ready (suc f)) y (m .key) a some (rw (is, m .is-delete) at (e .answered)) in
+      r .1 ∙ ap Removed (sym (r .2 .has-element))
+
+  -- ---- The step that marks a claimed row ----
+
+  pub record MarkedAt (s w code key element u y : ℕ) : Type 0 where
+    pub time : ℕ
+    pub later : s < time
+    pub before : time < u
+    pub running : Running ready s w code key element time
+    pub removes : removedAt ready time w ≡ y
+    pub unmarked : markOf (TableAt ready time) y ≡ false
+    pub marked : markOf (TableAt ready (suc time)) y ≡ true
+
+  claim-not-head : {s w u y : ℕ} → Claimed ready s w u y → y ≢ noRowRemoved
+  claim-not-head {y = y} c = above-not-head top (TableAt ready (c .at)) (c .prev) y
+      (rw (c .flag .prev-right) at (structure-at ready (c .at) .right-above (c .prev) (c .flag .prev-regular .linked) (c .flag .prev-not-tail)))
+
+  claim-marked : (s w code key element u y : ℕ) → Running ready s w code key element u → Claimed ready s w u y → markOf (TableAt ready u) y ≡ true
+      → MarkedAt s w code key element u y
+  claim-marked s w code key element u y r c marked =
+      let m = marked-within (TableAt ready) (mover-at ready) (structure-at ready) (move-at ready) (suc (c .at)) u y (c .before) clear marked in
+      let low : suc (c .at) ≤ m .time = m .after in
+      record {
+        time = m .time;
+        later = omega (arith, c .later);
+        before = m .before;
+        running = ran ready s w code key element (m .time) u r (omega (arith, c .later)) (omega (arith, m .before));
+        removes = c .removes (m .time) low (omega (arith, m .before));
+        unmarked = m .regular .unmarked;
+        marked = m .marked }
+    where
+      clear : markOf (TableAt ready (suc (c .at))) y ≡ false
+      clear = c .flag .mark= y ∙ (rw (c .flag .prev-right) at
+          (unflagged-right-unmarked (structure-at ready (c .at)) (c .prev) (c .flag .prev-regular) (c .flag .prev-not-tail) (c .flag .prev-unflagged)))
+
+  -- a running delete whose row is marked was marked at a step of its own time
+  pub removal-marked : (s w code key element u y : ℕ) → Running ready s w code key element u → removedAt ready u w ≡ y → y ≢ noRowRemoved
+      → markOf (TableAt ready u) y ≡ true → MarkedAt s w code key element u y
+  removal-marked s w code key element u y r is some marked = go (r .claim)
+    where
+      go : (removedAt ready u w ≡ noRowRemoved) ⊎ Claimed ready s w u (removedAt ready u w) → MarkedAt s w code key element u y
+      go (inl none) = absurd (some (sym is ∙ none))
+      go (inr c) = claim-marked s w code key element u y r (subst (Claimed ready s w u) is c) marked
+
+  -- ---- A removal that is unfinished at the end ----
+
+  set-flag : {s w u y : ℕ} → Claimed ready s w u y → SetFlag start calls s w y
+  set-flag c = record {
+      at = c .at;
+      prev = c .prev;
+      later = c .later;
+      step = c .step;
+      before = λ i. record { right = c .flag .prev-right i; mark = c .flag .prev-regular .unmarked i; flag = c .flag .prev-unflagged i };
+      after =
+        let right = c .flag .right= (c .prev) ∙ c .flag .prev-right in
+        let mark = c .flag .mark= (c .prev) ∙ c .flag .prev-regular .unmarked in
+        let flag = c .flag .flag-prev in
+        λ i. record { right = right i; mark = mark i; flag = flag i } }
+
+  -- the request of a removal is a delete
+  pub record Deletes (s w code key element : ℕ) : Type 0 where
+    pub request : Request start calls s w 3 key element
+    pub operation-same : operation code key element ≡ operation 3 key element
+
+  pub deletes : (s w code key element u y : ℕ) → Running ready s w code key element u → removedAt ready u w ≡ y → y ≢ noRowRemoved
+      → Deletes s w code key element
+  deletes s w code key element u y r is some =
+      let m = removes-save s w code key element u y r is some in
+      let d = delete-code code key element (m .key) (submit-taken ready s w code key element (r .request) .is-request) (m .is-delete) in
+      record {
+        request = subst (λ (c : ℕ). Request start calls s w c key element) (d .three) (r .request);
+        operation-same = ap (λ (c : ℕ). operation c key element) (d .three) }
+
+  pub removing : (s w code key element y : ℕ) → Running ready s w code key element (length calls) → removedAt ready (length calls) w ≡ y → y ≢ noRowRemoved
+      → markOf (TableAt ready (length calls)) y ≡ true → Removing start calls s w
+  removing s w code key element y r is some marked = go (r .claim)
+    where
+      go : (removedAt ready (length calls) w ≡ noRowRemoved) ⊎ Claimed ready s w (length calls) (removedAt ready (length calls) w) → Removing start calls s w
+      go (inl none) = absurd (some (sym is ∙ none))
+      go (inr c) = record {
+          key = key;
+          element = element;
+          request = deletes s w code key element (length calls) y r is some .request;
+          unfinished = r .busy;
+          row = y;
+          flagged = set-flag (subst (Claimed ready s w (length calls)) is c);
+          marked = marked }
