@@ -60,8 +60,9 @@ module _ {top : ℕ} {start : Catalogue} {calls : List Call} (ready : Ready top 
         answers : (c : Current ready w t) → lineAt start calls (suc t) w ≡ Idle Added
         answers c =
             elim (step-tells ready (c .request) w (c .code) (c .key) (c .element) t (c .running) (taken .was-busy) .linking) [
-              inl none ↦ absurd (held-linked (m .new-held) (links-none (stateAt start calls t .rows) _ none new new-linked))
-            | inr is ↦ next-line ∙ is ]
+              | inl none ↦ absurd (held-linked (m .new-held) (links-none (stateAt start calls t .rows) _ none new new-linked))
+              | inr is ↦ next-line ∙ is
+            ]
 
         ended-so : (c : Current ready w t) → Continues ready (c .request) w (c .code) (c .key) (c .element) t → Cause t
         ended-so c (runs r same) = absurd (idle-not-busy (answers c) (r .busy (suc t) (r .since) (omega arith)))

@@ -36,8 +36,9 @@ pub record WorkerPut (c c' : Catalogue) (w : ℕ) (k : Worker) : Type 0 where
 pub each-worker : {c c' : Catalogue} {w : ℕ} {k : Worker} → WorkerPut c c' w k → (P : ℕ → Worker → Type 0) → P w k
     → ((v : ℕ) → v ≢ w → P v (workerAt (c .workers) v)) → (v : ℕ) → P v (workerAt (c' .workers) v)
 each-worker {c' = c'} {w = w} put P mine theirs v = elim (ℕ-discrete v w) [
-    yes e ↦ subst (λ (u : ℕ). P u (workerAt (c' .workers) u)) (sym e) (subst (P w) (sym (put .now)) mine)
-  | no e ↦ subst (P v) (sym (put .others v e)) (theirs v e) ]
+  | yes e ↦ subst (λ (u : ℕ). P u (workerAt (c' .workers) u)) (sym e) (subst (P w) (sym (put .now)) mine)
+  | no e ↦ subst (P v) (sym (put .others v e)) (theirs v e)
+]
 
 abbrev pub submittedWorker : ℕ → ℕ → ℕ → Worker
 submittedWorker code key element = record { line = firstLine code key element; helps = noHelps; count = 0 }
@@ -72,9 +73,10 @@ module _ (c : Catalogue) (x : Call) (size : length (c .workers) ≡ 8) where
 
   put-worker : (c' : Catalogue) (w : ℕ) (k : Worker) → w < 8 → c' .workers ≡ set (c .workers) w k → WorkerPut c c' w k
   put-worker c' w k small e = record {
-      now = rw e (getD-set-same (c .workers) w k (idleWorker NoAnswer) (omega arith));
-      others = λ v differ. rw e (getD-set-other (c .workers) w v k (idleWorker NoAnswer) differ);
-      size = rw e (length-set (c .workers) w k) }
+    now = rw e (getD-set-same (c .workers) w k (idleWorker NoAnswer) (omega arith));
+    others = λ v differ. rw e (getD-set-other (c .workers) w v k (idleWorker NoAnswer) differ);
+    size = rw e (length-set (c .workers) w k);
+  }
 
   step-event : (w : ℕ) → x ≡ Step w → Event c x (step c w)
   unfolding step stepWorker applied
@@ -88,7 +90,8 @@ module _ (c : Catalogue) (x : Call) (size : length (c .workers) ≡ 8) where
         was-busy = busy;
         few-helps = few;
         rows-written = refl;
-        worker = put-worker _ w _ (omega (arith, ltb-false 7 w small)) refl })))))
+        worker = put-worker _ w _ (omega (arith, ltb-false 7 w small)) refl;
+      })))))
 
   submit-event : (w code key element : ℕ) → x ≡ Submit w code key element → Event c x (submit c w code key element)
   unfolding submit
@@ -102,7 +105,8 @@ module _ (c : Catalogue) (x : Call) (size : length (c .workers) ≡ 8) where
         is-request = not-false (isRequest code) known;
         was-idle = not-false (idle (workerAt (c .workers) w .line)) was-idle;
         rows-same = refl;
-        worker = put-worker _ w _ (omega (arith, ltb-false 7 w small)) refl })))))
+        worker = put-worker _ w _ (omega (arith, ltb-false 7 w small)) refl;
+      })))))
 
 pub call-event : (c : Catalogue) (x : Call) → length (c .workers) ≡ 8 → Event c x (call c x)
 unfolding call

@@ -99,7 +99,7 @@ module _ {top : ℕ} {start : Catalogue} {calls : List Call} (ready : Ready top 
   removes-save s w code key element u y r is some =
       rw (r .operation-is, is) at
       (removed-save top w (TableAt ready u) (lineAt start calls u w) (stackOf (workerAt (stateAt start calls u .workers) w))
-        (sound-at ready u .known w) (λ e. some (sym is ∙ e)))
+      (sound-at ready u .known w) (λ e. some (sym is ∙ e)))
 
   -- ---- What a removal answers ----
 
@@ -148,7 +148,8 @@ module _ {top : ℕ} {start : Catalogue} {calls : List Call} (ready : Ready top 
         running = ran ready s w code key element (m .time) u r (omega (arith, c .later)) (omega (arith, m .before));
         removes = c .removes (m .time) low (omega (arith, m .before));
         unmarked = m .regular .unmarked;
-        marked = m .marked }
+        marked = m .marked;
+      }
     where
       clear : markOf (TableAt ready (suc (c .at))) y ≡ false
       clear = c .flag .mark= y ∙ (rw (c .flag .prev-right) at
@@ -167,16 +168,17 @@ module _ {top : ℕ} {start : Catalogue} {calls : List Call} (ready : Ready top 
 
   set-flag : {s w u y : ℕ} → Claimed ready s w u y → SetFlag start calls s w y
   set-flag c = record {
-      at = c .at;
-      prev = c .prev;
-      later = c .later;
-      step = c .step;
-      before = λ i. record { right = c .flag .prev-right i; mark = c .flag .prev-regular .unmarked i; flag = c .flag .prev-unflagged i };
-      after =
+    at = c .at;
+    prev = c .prev;
+    later = c .later;
+    step = c .step;
+    before = λ i. record { right = c .flag .prev-right i; mark = c .flag .prev-regular .unmarked i; flag = c .flag .prev-unflagged i };
+    after =
         let right = c .flag .right= (c .prev) ∙ c .flag .prev-right in
         let mark = c .flag .mark= (c .prev) ∙ c .flag .prev-regular .unmarked in
         let flag = c .flag .flag-prev in
-        λ i. record { right = right i; mark = mark i; flag = flag i } }
+        λ i. record { right = right i; mark = mark i; flag = flag i };
+  }
 
   -- the request of a removal is a delete
   pub record Deletes (s w code key element : ℕ) : Type 0 where
@@ -190,7 +192,8 @@ module _ {top : ℕ} {start : Catalogue} {calls : List Call} (ready : Ready top 
       let d = delete-code code key element (m .key) (submit-taken ready s w code key element (r .request) .is-request) (m .is-delete) in
       record {
         request = subst (λ (c : ℕ). Request start calls s w c key element) (d .three) (r .request);
-        operation-same = ap (λ (c : ℕ). operation c key element) (d .three) }
+        operation-same = ap (λ (c : ℕ). operation c key element) (d .three);
+      }
 
   pub removing : (s w code key element y : ℕ) → Running ready s w code key element (length calls) → removedAt ready (length calls) w ≡ y → y ≢ noRowRemoved
       → markOf (TableAt ready (length calls)) y ≡ true → Removing start calls s w
@@ -199,10 +202,11 @@ module _ {top : ℕ} {start : Catalogue} {calls : List Call} (ready : Ready top 
       go : (removedAt ready (length calls) w ≡ noRowRemoved) ⊎ Claimed ready s w (length calls) (removedAt ready (length calls) w) → Removing start calls s w
       go (inl none) = absurd (some (sym is ∙ none))
       go (inr c) = record {
-          key = key;
-          element = element;
-          request = deletes s w code key element (length calls) y r is some .request;
-          unfinished = r .busy;
-          row = y;
-          flagged = set-flag (subst (Claimed ready s w (length calls)) is c);
-          marked = marked }
+        key = key;
+        element = element;
+        request = deletes s w code key element (length calls) y r is some .request;
+        unfinished = r .busy;
+        row = y;
+        flagged = set-flag (subst (Claimed ready s w (length calls)) is c);
+        marked = marked;
+      }

@@ -113,19 +113,25 @@ held-before {u = u} {v = v} {R' = R'} differ (private {new = new} m) x h = ap (�
 module _ (top : ℕ) (c c' : Catalogue) (sound : Sound top c) where
   submit-keeps-sound : (w code key element : ℕ) → suc key < top → Submitted c c' w code key element → Sound top c'
   submit-keeps-sound w code key element fits s = record {
-      structure = same-rows (λ rows. Structure top (rowAt rows)) (sound .structure);
-      known = each-worker (s .worker) (λ v k. AllHold top v (rowAt (c' .rows)) (facts (k .line) (stackOf k)))
+    structure = same-rows (λ rows. Structure top (rowAt rows)) (sound .structure);
+    known = each-worker (s .worker) (λ v k. AllHold top v (rowAt (c' .rows)) (facts (k .line) (stackOf k)))
         (same-rows (λ rows. AllHold top w (rowAt rows) (facts (firstLine code key element) (stackOf (submittedWorker code key element))))
-          (first-known top w (rowAt (c .rows)) code key element (sound .structure) fits))
+        (first-known top w (rowAt (c .rows)) code key element (sound .structure) fits))
         (λ v e. same-rows (λ rows. AllHold top v (rowAt rows) (facts (workerAt (c .workers) v .line) (stackOf (workerAt (c .workers) v)))) (sound .known v));
-      named = same-rows (λ rows. (v x : ℕ) → standingOf (rowAt rows) x ≡ Held v → heldRow (workerAt (c' .workers) v .line) ≡ x)
+    named = same-rows (λ rows. (v x : ℕ) → standingOf (rowAt rows) x ≡ Held v → heldRow (workerAt (c' .workers) v .line) ≡ x)
         (each-worker (s .worker) (λ v k. (x : ℕ) → standingOf (rowAt (c .rows)) x ≡ Held v → heldRow (k .line) ≡ x)
-          (λ x h. absurd (omega (arith, sound .named w x h, idle-holds-nothing (workerAt (c .workers) w .line) (s .was-idle),
-            held-inside (c .rows) x w h, sound .row-count)))
-          (λ v e. sound .named v));
-      row-count = ap length (s .rows-same) ∙ sound .row-count;
-      worker-count = s .worker .size ∙ sound .worker-count;
-      slot-count = each-worker (s .worker) (λ v k. length (k .helps) ≡ 8) refl (λ v e. sound .slot-count v) }
+        (λ x h. absurd (omega (
+          arith,
+          sound .named w x h,
+          idle-holds-nothing (workerAt (c .workers) w .line) (s .was-idle),
+          held-inside (c .rows) x w h,
+          sound .row-count,
+        )))
+        (λ v e. sound .named v));
+    row-count = ap length (s .rows-same) ∙ sound .row-count;
+    worker-count = s .worker .size ∙ sound .worker-count;
+    slot-count = each-worker (s .worker) (λ v k. length (k .helps) ≡ 8) refl (λ v e. sound .slot-count v);
+  }
     where
       same-rows : (P : List Row → Type 0) → P (c .rows) → P (c' .rows)
       same-rows P h = subst P (sym (s .rows-same)) h
@@ -137,19 +143,20 @@ module _ (top : ℕ) (c c' : Catalogue) (sound : Sound top c) where
 
   step-keeps-sound : (w : ℕ) → StepTaken c c' w → Sound top c'
   step-keeps-sound w s = record {
-      structure = rows-after (λ rows. Structure top (rowAt rows)) (move-keeps-structure (sound .structure) (l .move));
-      known = rows-after (λ rows. (v : ℕ) → AllHold top v (rowAt rows) (facts (workerAt (c' .workers) v .line) (stackOf (workerAt (c' .workers) v))))
+    structure = rows-after (λ rows. Structure top (rowAt rows)) (move-keeps-structure (sound .structure) (l .move));
+    known = rows-after (λ rows. (v : ℕ) → AllHold top v (rowAt rows) (facts (workerAt (c' .workers) v .line) (stackOf (workerAt (c' .workers) v))))
         (each-worker (s .worker) (λ v k. AllHold top v (rowAt after) (facts (k .line) (stackOf k)))
-          (known-after k e top w (rowAt after) (s .few-helps) (sound .slot-count w) (l .known))
-          (λ v differ. facts-survive top v (sound .structure) (l .move) (others-leave-held (sound .structure) (λ q. differ (sym q)) (l .move))
-            (facts (workerAt (c .workers) v .line) (stackOf (workerAt (c .workers) v))) (sound .known v)));
-      named = rows-after (λ rows. (v x : ℕ) → standingOf (rowAt rows) x ≡ Held v → heldRow (workerAt (c' .workers) v .line) ≡ x)
+        (known-after k e top w (rowAt after) (s .few-helps) (sound .slot-count w) (l .known))
+        (λ v differ. facts-survive top v (sound .structure) (l .move) (others-leave-held (sound .structure) (λ q. differ (sym q)) (l .move))
+        (facts (workerAt (c .workers) v .line) (stackOf (workerAt (c .workers) v))) (sound .known v)));
+    named = rows-after (λ rows. (v x : ℕ) → standingOf (rowAt rows) x ≡ Held v → heldRow (workerAt (c' .workers) v .line) ≡ x)
         (each-worker (s .worker) (λ v k. (x : ℕ) → standingOf (rowAt after) x ≡ Held v → heldRow (k .line) ≡ x)
-          (λ x h. ap heldRow (line-after k e) ∙ l .named x (sound .named w x) h)
-          (λ v differ x h. sound .named v x (held-before (λ q. differ (sym q)) (l .move) x h)));
-      row-count = ap length (s .rows-written) ∙ length-written (c .rows) (e .write) ∙ sound .row-count;
-      worker-count = s .worker .size ∙ sound .worker-count;
-      slot-count = each-worker (s .worker) (λ v k. length (k .helps) ≡ 8) (slots-after k e (sound .slot-count w)) (λ v differ. sound .slot-count v) }
+        (λ x h. ap heldRow (line-after k e) ∙ l .named x (sound .named w x) h)
+        (λ v differ x h. sound .named v x (held-before (λ q. differ (sym q)) (l .move) x h)));
+    row-count = ap length (s .rows-written) ∙ length-written (c .rows) (e .write) ∙ sound .row-count;
+    worker-count = s .worker .size ∙ sound .worker-count;
+    slot-count = each-worker (s .worker) (λ v k. length (k .helps) ≡ 8) (slots-after k e (sound .slot-count w)) (λ v differ. sound .slot-count v);
+  }
     where
       k : Worker
       k = workerAt (c .workers) w
