@@ -13,7 +13,6 @@ use Rattle.order.specs.Moves.{LinkMove, MarkMove}
 use Rattle.order.specs.PlainMap.{PlainMap}
 use Rattle.order.specs.Lawful.{noRowRemoved, removedRow}
 use Rattle.order.specs.Events.{StepTaken, effectIn}
-use Rattle.order.specs.SoundKept.{line-after}
 use Rattle.order.specs.Owners.{Owner}
 use Rattle.order.specs.Memory.{links-none}
 use Rattle.order.specs.Demand.{stateAt, lineAt, Accepts}
@@ -22,6 +21,7 @@ use Rattle.order.specs.Running.{TableAt, removedAt, Ends, Continues, run
 use Rattle.order.specs.Courses.{idle-not-busy, Current, current}
 use Rattle.order.specs.MapAt.{mapAt, same-rows-map, Turn, turns-nothing, turns-link, turns-mark, turn-at}
 use Rattle.model.specs.State.{rowAt, idle}
+use Rattle.model.specs.Answers.{line-after}
 use Rattle.model.specs.Step.{written}
 use Rattle.model.specs.declared.Row.{Row}
 use Rattle.model.specs.declared.Standing.the-variants.{Linked}

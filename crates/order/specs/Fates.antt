@@ -14,7 +14,7 @@ use Rattle.order.specs.StructureFacts.{above-not-head}
 use Rattle.order.specs.PlainMap.{operation}
 use Rattle.order.specs.Lawful.{Removal, goes-on, claims, ends, noRowRemoved, removedRow}
 use Rattle.order.specs.Events.{StepTaken, effectIn}
-use Rattle.order.specs.SoundKept.{line-after, step-lawful}
+use Rattle.order.specs.SoundKept.{step-lawful}
 use Rattle.order.specs.Asking.{Agrees}
 use Rattle.order.specs.Demand.{stateAt, Accepts, Request, Finished, Removing}
 use Rattle.order.specs.Time.{Ready, Happening, nothing-happens, submits, steps, happening, sound-at, structure-at, step-taken, submit-taken}
@@ -25,6 +25,7 @@ use Rattle.order.specs.Moments.{reading, Kind, reads-only, is-full, adds
 use Rattle.order.specs.Removals.{MarkedAt, removal-marked}
 use Rattle.order.specs.MapChanges.{Change, adds, removes, change-unfinished}
 use Rattle.model.specs.State.{rowAt, workerAt, idle}
+use Rattle.model.specs.Answers.{line-after}
 use Rattle.model.specs.declared.Row.{Row}
 use Rattle.model.specs.declared.Succ.{Succ}
 use Rattle.model.specs.declared.Worker.{Worker}

@@ -12,11 +12,11 @@ use borrow.Author.Tests.{ltb-true, ltb-false}
 use Rattle.order.specs.Basics.{clash, free-linked}
 use Rattle.order.specs.FreeRows.{NoneFree, LowestFree, found, none, lowest-free}
 use Rattle.order.specs.Events.{effectIn}
-use Rattle.order.specs.SoundKept.{line-after}
 use Rattle.order.specs.Timeline.{grown-later}
 use Rattle.order.specs.Demand.{stateAt, lineAt, HasBeenLinked, IsHeld, NoRowLeft, LooksForRow, FullExactly}
 use Rattle.order.specs.Time.{Ready, sound-at, structure-at, mover-at, move-at, step-taken}
 use Rattle.model.specs.State.{rowAt, workerAt, helpAt, idle, succOf}
+use Rattle.model.specs.Answers.{line-after}
 use Rattle.model.specs.Choices.{if-both}
 use Rattle.model.specs.Order.{hasKey}
 use Rattle.model.specs.Cas.{sameSucc, flaggedOnly, succAt, withSucc}

@@ -41,8 +41,10 @@ pub mod EveryLine
 pub mod Events
 pub mod Sound
 pub mod SoundKept
+pub mod LineKnows
 pub mod Owners
 pub mod Time
+pub mod Reached
 pub mod Memory
 pub mod InsertMemory
 pub mod DeleteMemory

@@ -1,7 +1,7 @@
 -- Demand 3, proved: for any calls from the empty catalogue; and from any state in which no worker is busy, the rows have their structure and
 -- no flag is without an owner, with the map of its chain.
 use Prim.Native.Nat.{ℕ, _+_, _≤_, _<_}
-use mathlib.Core.Path.{_≡_, refl, ap, sym, subst}
+use mathlib.Core.Path.{_≡_, refl, sym, subst}
 use mathlib.Core.List.{List, List·Memᴰ}
 use mathlib.Core.Option.{Option, none, some}
 use native.Mathlib.Omega.{arith}
@@ -11,20 +11,18 @@ use Rattle.order.specs.TableMap.{Has, shown-has, has-shown}
 use Rattle.order.specs.Walk.{walk-meets-chain}
 use Rattle.order.specs.PlainMap.{PlainMap, emptyMap}
 use Rattle.order.specs.MapOfTable.{Entry, IsMapOf, empty-map, map-has}
-use Rattle.order.specs.Sound.{empty-sound, all-fresh}
-use Rattle.order.specs.SoundKept.{topOver, keys-fit, top-positive}
-use Rattle.order.specs.Owners.{empty-owned}
+use Rattle.order.specs.Sound.{empty-sound}
 use Rattle.order.specs.Demand.{stateAt, Placed, Ordered, FullExactly, UnmarkedSave, HoldsTheChain, DemandThree}
 use Rattle.order.specs.Time.{Ready, state-end, sound-at, structure-at}
+use Rattle.order.specs.Reached.{empty-ready}
 use Rattle.order.specs.MapAt.{mapAt, is-map-at, is-the-map}
 use Rattle.order.specs.Placing.{once-at}
 use Rattle.order.specs.OrderOfRun.{orderFrom, HasPlace, has-place, stands, in-order-from, order-sorted, order-once, entry-of, moment-of}
 use Rattle.order.specs.Replay.{order-replays}
 use Rattle.order.specs.FullAnswer.{full-exactly}
-use Rattle.model.specs.State.{rowAt, idle, emptyCatalogue}
+use Rattle.model.specs.State.{rowAt, emptyCatalogue}
 use Rattle.model.specs.Run.{run}
 use Rattle.model.specs.declared.Row.{Row}
-use Rattle.model.specs.declared.Worker.{Worker}
 use Rattle.model.specs.declared.Catalogue.{Catalogue}
 use Rattle.model.specs.declared.Call.{Call}
 
@@ -120,14 +118,6 @@ demand-from start calls before ready holds = record {
         (chain-held-is-map (start .rows) (omega (arith, ready .sound .row-count)) (ready .sound .structure) before holds)
 
 -- ---- The empty catalogue ----
-
-pub empty-ready : (calls : List Call) → Ready (topOver calls) emptyCatalogue calls
-empty-ready calls = record {
-  sound = empty-sound (topOver calls) (top-positive calls);
-  owned = empty-owned;
-  at-rest = λ w. ap (λ (k : Worker). idle (k .line)) (all-fresh w);
-  fits = keys-fit (topOver calls) calls (omega arith);
-}
 
 empty-holds : HoldsTheChain emptyMap (emptyCatalogue .rows)
 empty-holds = map-holds-chain (emptyCatalogue .rows) (omega arith) (empty-sound 1 (omega arith) .structure) emptyMap empty-map

@@ -1,37 +1,34 @@
 -- Flags have owners: each set flag is that of one unfinished delete, whose outermost help it is, and no two deletes own one row.
-use Prim.Native.Nat.{ℕ, _≤_, _<_}
-use mathlib.Core.Bool.{Bool, true, false}
+use Prim.Native.Nat.{ℕ}
+use mathlib.Core.Bool.{true, false}
 use mathlib.Core.Path.{_≡_, refl, ap, sym, _∙_, subst}
-use mathlib.Core.Logic.{_≢_, _⊎_, inl, inr}
+use mathlib.Core.Logic.{_≢_}
 use mathlib.Core.List.{List, [], _∷_}
-use native.Mathlib.Omega.{arith}
-use native.Mathlib.Decide.{ℕ-discrete, decLt}
+use native.Mathlib.Decide.{ℕ-discrete}
 use lib.Dec.{eqb}
-use lib.ListN.{length, List·getD-eq-default}
 use Rattle.order.specs.Basics.{clash}
 use Rattle.order.specs.Table.{Table, rightOf, flagOf}
 use Rattle.order.specs.Structure.{Structure, Helpable, flagged-for, already-marked}
-use Rattle.order.specs.StructureFacts.{above-not-head, flagged-right-above, predecessor-unique, flagged-not-tail, help-unique}
+use Rattle.order.specs.StructureFacts.{above-not-head, flagged-right-above, predecessor-unique, flagged-not-tail}
 use Rattle.order.specs.Moves.{Move, nothing, links, marks, unlinks, flags, backlinks, private, FlagMove}
-use Rattle.order.specs.EmptyTable.{emptyTable, empty-unflagged}
+use Rattle.order.specs.EmptyTable.{empty-unflagged}
 use Rattle.order.specs.Stack.{stackOf}
-use Rattle.order.specs.Facts.{Fact, AllHold, helpFacts, pendingFacts, facts}
+use Rattle.order.specs.Facts.{AllHold, pendingFacts, facts}
+use Rattle.order.specs.LineKnows.{running-help}
 use Rattle.order.specs.Lawful.{Removal, goes-on, claims, ends, noRowRemoved, removedInHelp, removedRow}
-use Rattle.order.specs.Events.{Event, refused, submitted, stepped, Submitted, StepTaken, effectIn, each-worker, call-event}
+use Rattle.order.specs.Events.{Event, refused, submitted, stepped, Submitted, StepTaken, effectIn, each-worker}
 use Rattle.order.specs.Sound.{Sound, all-fresh}
-use Rattle.order.specs.SoundKept.{line-after, step-lawful}
-use Rattle.model.specs.State.{if_then_else_, rowAt, workerAt, idleWorker, idle, emptyCatalogue}
+use Rattle.order.specs.SoundKept.{step-lawful}
+use Rattle.model.specs.State.{rowAt, workerAt, idle, emptyCatalogue}
+use Rattle.model.specs.Answers.{line-after}
 use Rattle.model.specs.Choices.{if-both}
-use Rattle.model.specs.Step.{written, workerAfter, firstLine}
-use Rattle.model.specs.declared.Answer.the-variants.{NoAnswer}
+use Rattle.model.specs.Step.{written, firstLine}
 use Rattle.model.specs.declared.Row.{Row}
 use Rattle.model.specs.declared.Worker.{Worker}
 use Rattle.model.specs.declared.Catalogue.{Catalogue}
 use Rattle.model.specs.declared.Pending.{Pending}
 use Rattle.model.specs.declared.HelpCaller.{HelpCaller}
 use Rattle.model.specs.declared.HelpCaller.the-variants.{Insert8, Insert16, Delete6}
-use Rattle.model.specs.declared.HelpLine.{HelpLine}
-use Rattle.model.specs.declared.HelpLine.the-variants.{HelpFlagged1, HelpFlagged2, TryMark2, TryMark3, TryMark6, HelpMarked1, HelpMarked2}
 use Rattle.model.specs.declared.Line.{Line}
 use Rattle.model.specs.declared.Line.the-variants.{Idle, Search, Insert, Flag, Help}
 use Rattle.model.specs.declared.Stepped.{Stepped}
@@ -64,16 +61,6 @@ helpedFrom (Flag l f) hs = 0
 helpedFrom (Help l f) hs = outermostPrev hs (f .prev)
 
 module _ (top w : ℕ) (R : Table) where
-  running-help : (l : HelpLine) (prev del : ℕ) (rest : List Fact) → AllHold top w R (helpFacts l prev del rest)
-      → Helpable R prev del × AllHold top w R rest
-  running-help HelpFlagged1 prev del rest (help, known) = (help, known)
-  running-help HelpFlagged2 prev del rest (helping, known) = (helping .help, known)
-  running-help TryMark2 prev del rest (helping, known) = (helping .help, known)
-  running-help (TryMark3 right) prev del rest (helping, known) = (helping .help, known)
-  running-help TryMark6 prev del rest (helping, known) = (helping .help, known)
-  running-help HelpMarked1 prev del rest (helping, (marked, known)) = (helping .help, known)
-  running-help (HelpMarked2 right) prev del rest (helping, (frozen, known)) = (helping .help, known)
-
   outermost-help : (key element target : ℕ) (hs : List Pending) (prev del : ℕ) → Helpable R prev del
       → AllHold top w R (pendingFacts key element (Delete6 target true) hs prev del) → Helpable R (outermostPrev hs prev) target
   outermost-help key element target [] prev del help (same, _) = subst (Helpable R prev) same help
@@ -96,7 +83,7 @@ module _ (top w : ℕ) (R : Table) where
   removed-helpable (Insert l f) hs known some = absurd (some refl)
   removed-helpable (Flag l f) hs known some = absurd (some refl)
   removed-helpable (Help l f) hs (fits, known) some =
-      let both = running-help l (f .prev) (f .del) _ known in
+      let both = running-help top w R l (f .prev) (f .del) _ known in
       by-caller (f .key) (f .element) (f .caller) hs (f .prev) (f .del) (both .0) (both .1) some
 
 -- ---- Every event keeps the owners ----

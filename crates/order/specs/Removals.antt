@@ -12,7 +12,8 @@ use borrow.Author.Tests.{eqb-false, leb-true}
 use Rattle.order.specs.Basics.{clash}
 use Rattle.order.specs.Table.{Table, markOf}
 use Rattle.order.specs.StructureFacts.{above-not-head, unflagged-right-unmarked}
-use Rattle.order.specs.Facts.{Fact, SaveOf, AllHold, helpFacts, pendingFacts, facts}
+use Rattle.order.specs.Facts.{SaveOf, AllHold, pendingFacts, facts}
+use Rattle.order.specs.LineKnows.{running-help}
 use Rattle.order.specs.Stack.{stackOf}
 use Rattle.order.specs.Timeline.{marked-within}
 use Rattle.order.specs.PlainMap.{Operation, operation, search, insert, delete}
@@ -30,8 +31,6 @@ use Rattle.model.specs.declared.Answer.{Answer}
 use Rattle.model.specs.declared.Answer.the-variants.{NoAnswer, Found, Absent, Added, Duplicate, Removed, Full}
 use Rattle.model.specs.declared.HelpCaller.{HelpCaller}
 use Rattle.model.specs.declared.HelpCaller.the-variants.{Insert8, Insert16, Delete6}
-use Rattle.model.specs.declared.HelpLine.{HelpLine}
-use Rattle.model.specs.declared.HelpLine.the-variants.{HelpFlagged1, HelpFlagged2, TryMark2, TryMark3, TryMark6, HelpMarked1, HelpMarked2}
 use Rattle.model.specs.declared.Line.{Line}
 use Rattle.model.specs.declared.Line.the-variants.{Idle, Search, Insert, Flag, Help}
 use Rattle.model.specs.declared.Call.{Call}
@@ -45,15 +44,6 @@ pub record RemovesSave (R : Table) (o : Operation) (row : ℕ) : Type 0 where
   pub save : SaveOf R row key
 
 module _ (top w : ℕ) (R : Table) where
-  under-help : (l : HelpLine) (prev del : ℕ) (rest : List Fact) → AllHold top w R (helpFacts l prev del rest) → AllHold top w R rest
-  under-help HelpFlagged1 prev del rest known = known .1
-  under-help HelpFlagged2 prev del rest known = known .1
-  under-help TryMark2 prev del rest known = known .1
-  under-help (TryMark3 right) prev del rest known = known .1
-  under-help TryMark6 prev del rest known = known .1
-  under-help HelpMarked1 prev del rest known = known .1 .1
-  under-help (HelpMarked2 right) prev del rest known = known .1 .1
-
   caller-removes : (key element : ℕ) (caller : HelpCaller) (hs : List Pending) (prev del : ℕ) → AllHold top w R (pendingFacts key element caller hs prev del)
       → removedInHelp caller ≢ noRowRemoved → RemovesSave R (helpOperation key element caller) (removedInHelp caller)
   caller-removes key element caller (h ∷ hs) prev del (same, (helping, known)) some = caller-removes key element caller hs (h .prev) (h .del) known some
@@ -68,7 +58,7 @@ module _ (top w : ℕ) (R : Table) where
   removed-save (Insert l f) hs known some = absurd (some refl)
   removed-save (Flag l f) hs known some = absurd (some refl)
   removed-save (Help l f) hs (fits, known) some =
-      caller-removes (f .key) (f .element) (f .caller) hs (f .prev) (f .del) (under-help l (f .prev) (f .del) _ known) some
+      caller-removes (f .key) (f .element) (f .caller) hs (f .prev) (f .del) (running-help top w R l (f .prev) (f .del) _ known .1) some
 
 -- ---- The code of a delete ----
 

@@ -14,12 +14,13 @@ use Rattle.order.specs.Moves.{FlagMove}
 use Rattle.order.specs.PlainMap.{Operation, operation, search, insert, delete}
 use Rattle.order.specs.Lawful.{Removal, goes-on, claims, ends, noRowRemoved, removedRow}
 use Rattle.order.specs.Events.{StepTaken, effectIn}
-use Rattle.order.specs.SoundKept.{line-after, step-lawful}
+use Rattle.order.specs.SoundKept.{step-lawful}
 use Rattle.order.specs.Demand.{stateAt, lineAt, Accepts, Request, BusySince, Finished}
 use Rattle.order.specs.Memory.{Past, past-still, operationOf, Answered, GoesOn, NextLine, Tells}
 use Rattle.order.specs.LineMemory.{effect-tells}
 use Rattle.order.specs.Time.{Ready, Happening, nothing-happens, submits, steps, happening, sound-at, structure-at, mover-at, move-at, submit-taken}
 use Rattle.model.specs.State.{if_then_else_, rowAt, workerAt, idle}
+use Rattle.model.specs.Answers.{line-after}
 use Rattle.model.specs.Effects.{callSearchFrom}
 use Rattle.model.specs.Step.{written, firstLine}
 use Rattle.model.specs.declared.Row.{Row}

@@ -1,35 +1,35 @@
--- Every call keeps a sound state sound, whatever its numbers, as long as a submitted key fits under the tail's rank; so every state that
--- is reached from the empty catalogue is sound.
+-- Every call keeps a sound state sound, whatever its numbers, as long as a submitted key fits under the tail's rank; and so does a run of
+-- calls, for a rank of the tail above all of their keys.
 use Prim.Native.Nat.{ℕ, suc, _+_, _≤_, _<_, max}
-use mathlib.Core.Bool.{Bool, true, false}
+use mathlib.Core.Bool.{true, false}
 use mathlib.Core.Path.{_≡_, refl, ap, sym, _∙_, subst}
 use mathlib.Core.Logic.{_≢_, _⊎_, inl, inr}
 use mathlib.Core.List.{List, [], _∷_}
 use native.Mathlib.Omega.{arith}
-use native.Mathlib.Decide.{ℕ-discrete}
 use lib.Dec.{eqb}
 use lib.ListN.{length, set, length-set}
 use Rattle.order.specs.Basics.{clash, held-linked}
-use Rattle.order.specs.Table.{Table, standingOf, rankOf}
+use Rattle.order.specs.Table.{Table, standingOf}
 use Rattle.order.specs.Structure.{Structure}
 use Rattle.order.specs.StructureFacts.{head-rank}
 use Rattle.order.specs.Moves.{Move, nothing, links, marks, unlinks, flags, backlinks, private}
 use Rattle.order.specs.Kept.{move-keeps-structure}
-use Rattle.order.specs.Stack.{newestFirst, stackOf, stackAfter, stacked-stack, stacked-slots, stacked-line}
+use Rattle.order.specs.Stack.{newestFirst, stackOf, stackAfter, stacked-stack, stacked-slots}
 use Rattle.order.specs.Facts.{AtMost, AllHold, facts}
 use Rattle.order.specs.StableFacts.{others-leave-held, facts-survive}
 use Rattle.order.specs.Writes.{held-inside}
 use Rattle.order.specs.Lawful.{Lawful, removedRow}
 use Rattle.order.specs.EveryLine.{effect-lawful}
-use Rattle.order.specs.Events.{Event, refused, submitted, stepped, Submitted, StepTaken, WorkerPut, each-worker, effectIn, submittedWorker, call-event}
-use Rattle.order.specs.Sound.{Sound, empty-sound}
-use Rattle.model.specs.State.{rowAt, workerAt, idle, emptyCatalogue}
+use Rattle.order.specs.Events.{Event, refused, submitted, stepped, Submitted, StepTaken, each-worker, effectIn, submittedWorker, call-event}
+use Rattle.order.specs.Sound.{Sound}
+use Rattle.model.specs.State.{rowAt, workerAt, idle}
 use Rattle.model.specs.Choices.{if-both, if-known}
 use Rattle.model.specs.WellFormed.{heldRow, noRowHeld}
-use Rattle.model.specs.Step.{written, stacked, workerAfter, ninthHelp, effectOf, firstLine}
+use Rattle.model.specs.Step.{written, workerAfter, ninthHelp, firstLine}
+use Rattle.model.specs.Answers.{stacked-line, line-after}
 use Rattle.model.specs.Run.{call, run}
 use Rattle.model.specs.declared.Row.{Row}
-use Rattle.model.specs.declared.Standing.the-variants.{Free, Held, Linked}
+use Rattle.model.specs.declared.Standing.the-variants.{Free, Held}
 use Rattle.model.specs.declared.Worker.{Worker}
 use Rattle.model.specs.declared.Catalogue.{Catalogue}
 use Rattle.model.specs.declared.Pending.{Pending}
@@ -60,10 +60,6 @@ idle-holds-nothing (Flag l f) h = absurd (clash h refl)
 idle-holds-nothing (Help l f) h = absurd (clash h refl)
 
 module _ (k : Worker) (e : Effect) where
-  pub line-after : workerAfter k e .line ≡ e .line
-  unfolding workerAfter
-  line-after = if-both (λ (x : Worker). x .line ≡ e .line) (idle (e .line)) refl (stacked-line k (e .line) (e .stack))
-
   slots-after : length (k .helps) ≡ 8 → length (workerAfter k e .helps) ≡ 8
   unfolding workerAfter
   slots-after size = if-both (λ (x : Worker). length (x .helps) ≡ 8) (idle (e .line)) refl (stacked-slots k (e .line) (e .stack) ∙ size)
@@ -215,8 +211,3 @@ unfolding topOver
 top-positive [] = omega arith
 top-positive (Submit w code key element ∷ xs) = omega (arith, top-positive xs)
 top-positive (Step w ∷ xs) = top-positive xs
-
--- every reached state is sound
-pub reached : (calls : List Call) → Sound (topOver calls) (run emptyCatalogue calls)
-reached calls =
-    run-keeps-sound (topOver calls) emptyCatalogue calls (empty-sound (topOver calls) (top-positive calls)) (keys-fit (topOver calls) calls (omega arith))
