@@ -45,6 +45,8 @@ pub mod LineKnows
 pub mod Owners
 pub mod Time
 pub mod Reached
+pub mod EightHelps
+pub mod NeverRefused
 pub mod Memory
 pub mod InsertMemory
 pub mod DeleteMemory
