@@ -1,5 +1,5 @@
--- Why a call is refused with 4 or 5: the state is not well formed, or a line would push a ninth pending help. In a reached state 5
--- never comes.
+-- Why a call is refused with 4 or 5: the state is not well formed, or a line would push a ninth pending help. In a reached state neither
+-- comes.
 use Prim.Native.Nat.{ℕ}
 use mathlib.Core.Bool.{true, false, not}
 use mathlib.Core.Path.{_≡_, subst}
@@ -12,6 +12,7 @@ use Rattle.order.specs.Basics.{clash}
 use Rattle.order.specs.Events.{lineOf, effectIn}
 use Rattle.order.specs.Reached.{reached}
 use Rattle.order.specs.EightHelps.{no-ninth}
+use Rattle.kept.specs.WellFormedKept.{reached-well-formed}
 use Rattle.model.specs.State.{workerAt, idle, emptyCatalogue}
 use Rattle.model.specs.Choices.{if-both, if-known}
 use Rattle.model.specs.WellFormed.{wellFormed}
@@ -78,3 +79,7 @@ pub never-ninth-help : (calls : List Call) (x : Call) → call (run emptyCatalog
 never-ninth-help calls x refused =
     let pushes = refused-because (run emptyCatalogue calls) x NinthHelp refused in
     clash (pushes .ninth) (no-ninth (reached calls) (pushes .worker) (pushes .busy))
+
+pub never-not-well-formed : (calls : List Call) (x : Call) → call (run emptyCatalogue calls) x .verdict ≢ Refused NotWellFormed
+never-not-well-formed calls x refused =
+    clash (reached-well-formed calls) (refused-because (run emptyCatalogue calls) x NotWellFormed refused)
