@@ -4,7 +4,7 @@ use Prim.Native.Nat.{ℕ, suc, _≤_, _<_}
 use mathlib.Core.Bool.{Bool, true, false}
 use mathlib.Core.Path.{_≡_, refl, ap, sym, _∙_, subst}
 use mathlib.Core.Logic.{_≢_, _⊎_, inl, inr}
-use mathlib.Core.List.{List, [], _∷_}
+use mathlib.Core.List.{List}
 use native.Mathlib.Omega.{arith}
 use lib.Dec.{eqb}
 use lib.ListN.{length}
@@ -12,13 +12,13 @@ use borrow.Author.Tests.{eqb-false, leb-true}
 use Rattle.order.specs.Basics.{clash}
 use Rattle.order.specs.Table.{Table, markOf}
 use Rattle.order.specs.StructureFacts.{above-not-head, unflagged-right-unmarked}
-use Rattle.order.specs.Facts.{SaveOf, AllHold, pendingFacts, facts}
-use Rattle.order.specs.LineKnows.{running-help}
+use Rattle.order.specs.Facts.{SaveOf, AllHold, facts}
+use Rattle.order.specs.LineKnows.{Targets, in-help, targets-operation, target-known}
 use Rattle.order.specs.Stack.{stackOf}
 use Rattle.order.specs.Timeline.{marked-within}
 use Rattle.order.specs.PlainMap.{Operation, operation, search, insert, delete}
 use Rattle.order.specs.Lawful.{noRowRemoved, removedRow, removedInHelp}
-use Rattle.order.specs.Memory.{Answered, RemovesRow, operationOf, helpOperation}
+use Rattle.order.specs.Memory.{Answered, RemovesRow, operationOf}
 use Rattle.order.specs.Demand.{stateAt, lineAt, Request, SetFlag, Removing}
 use Rattle.order.specs.Time.{Ready, sound-at, structure-at, mover-at, move-at, submit-taken}
 use Rattle.order.specs.Running.{TableAt, removedAt, Claimed, Running, Ends}
@@ -31,6 +31,8 @@ use Rattle.model.specs.declared.Answer.{Answer}
 use Rattle.model.specs.declared.Answer.the-variants.{NoAnswer, Found, Absent, Added, Duplicate, Removed, Full}
 use Rattle.model.specs.declared.HelpCaller.{HelpCaller}
 use Rattle.model.specs.declared.HelpCaller.the-variants.{Insert8, Insert16, Delete6}
+use Rattle.model.specs.declared.HelpFrame.{HelpFrame}
+use Rattle.model.specs.declared.HelpLine.{HelpLine}
 use Rattle.model.specs.declared.Line.{Line}
 use Rattle.model.specs.declared.Line.the-variants.{Idle, Search, Insert, Flag, Help}
 use Rattle.model.specs.declared.Call.{Call}
@@ -44,21 +46,21 @@ pub record RemovesSave (R : Table) (o : Operation) (row : ℕ) : Type 0 where
   pub save : SaveOf R row key
 
 module _ (top w : ℕ) (R : Table) where
-  caller-removes : (key element : ℕ) (caller : HelpCaller) (hs : List Pending) (prev del : ℕ) → AllHold top w R (pendingFacts key element caller hs prev del)
-      → removedInHelp caller ≢ noRowRemoved → RemovesSave R (helpOperation key element caller) (removedInHelp caller)
-  caller-removes key element caller (h ∷ hs) prev del (same, (helping, known)) some = caller-removes key element caller hs (h .prev) (h .del) known some
-  caller-removes key element (Insert8 row new) [] prev del known some = absurd (some refl)
-  caller-removes key element (Insert16 row new) [] prev del known some = absurd (some refl)
-  caller-removes key element (Delete6 target true) [] prev del (same, (save, _)) some = record { key = key; is-delete = refl; save = save }
-  caller-removes key element (Delete6 target false) [] prev del known some = absurd (some refl)
+  target-removed : (l : HelpLine) (f : HelpFrame) (hs : List Pending) (caller : HelpCaller) → f .caller ≡ caller → AllHold top w R (facts (Help l f) hs)
+      → removedInHelp caller ≢ noRowRemoved → RemovesSave R (operationOf (Help l f)) (removedInHelp caller)
+  target-removed l f hs (Insert8 row new) e known some = absurd (some refl)
+  target-removed l f hs (Insert16 row new) e known some = absurd (some refl)
+  target-removed l f hs (Delete6 target true) e known some =
+      let targets : Targets (Help l f) target (f .key) = in-help e in
+      record { key = f .key; is-delete = targets-operation targets; save = target-known top w R hs targets known }
+  target-removed l f hs (Delete6 target false) e known some = absurd (some refl)
 
   removed-save : (l : Line) (hs : List Pending) → AllHold top w R (facts l hs) → removedRow l ≢ noRowRemoved → RemovesSave R (operationOf l) (removedRow l)
   removed-save (Idle a) hs known some = absurd (some refl)
   removed-save (Search l f) hs known some = absurd (some refl)
   removed-save (Insert l f) hs known some = absurd (some refl)
   removed-save (Flag l f) hs known some = absurd (some refl)
-  removed-save (Help l f) hs (fits, known) some =
-      caller-removes (f .key) (f .element) (f .caller) hs (f .prev) (f .del) (running-help top w R l (f .prev) (f .del) _ known .1) some
+  removed-save (Help l f) hs known some = target-removed l f hs (f .caller) refl known some
 
 -- ---- The code of a delete ----
 
