@@ -18,8 +18,9 @@ pub record Agrees (m : PlainMap) (o : Operation) (a : Answer) (m' : PlainMap) : 
 -- an entry set as it is changes nothing
 setting-as-is : (m : PlainMap) (k : ℕ) (entry : Option ℕ) → m k ≡ entry → setting m k entry ≡ m
 setting-as-is m k entry is = fun-ext (λ j. elim (ℕ-discrete j k) [
-    yes e ↦ ap (setting m k entry) e ∙ setting-same m k entry ∙ sym is ∙ ap m (sym e)
-  | no e ↦ setting-other m k j entry e ])
+  | yes e ↦ ap (setting m k entry) e ∙ setting-same m k entry ∙ sym is ∙ ap m (sym e)
+  | no e ↦ setting-other m k j entry e
+])
 
 module _ (m : PlainMap) (k : ℕ) where
   pub found-agrees : (e : ℕ) → m k ≡ some e → Agrees m (search k) (Found e) m

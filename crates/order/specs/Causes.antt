@@ -13,7 +13,6 @@ use Rattle.order.specs.Moves.{LinkMove, MarkMove}
 use Rattle.order.specs.PlainMap.{PlainMap}
 use Rattle.order.specs.Lawful.{noRowRemoved, removedRow}
 use Rattle.order.specs.Events.{StepTaken, effectIn}
-use Rattle.order.specs.SoundKept.{line-after}
 use Rattle.order.specs.Owners.{Owner}
 use Rattle.order.specs.Memory.{links-none}
 use Rattle.order.specs.Demand.{stateAt, lineAt, Accepts}
@@ -22,6 +21,7 @@ use Rattle.order.specs.Running.{TableAt, removedAt, Ends, Continues, run
 use Rattle.order.specs.Courses.{idle-not-busy, Current, current}
 use Rattle.order.specs.MapAt.{mapAt, same-rows-map, Turn, turns-nothing, turns-link, turns-mark, turn-at}
 use Rattle.model.specs.State.{rowAt, idle}
+use Rattle.model.specs.Answers.{line-after}
 use Rattle.model.specs.Step.{written}
 use Rattle.model.specs.declared.Row.{Row}
 use Rattle.model.specs.declared.Standing.the-variants.{Linked}
@@ -60,8 +60,9 @@ module _ {top : ℕ} {start : Catalogue} {calls : List Call} (ready : Ready top 
         answers : (c : Current ready w t) → lineAt start calls (suc t) w ≡ Idle Added
         answers c =
             elim (step-tells ready (c .request) w (c .code) (c .key) (c .element) t (c .running) (taken .was-busy) .linking) [
-              inl none ↦ absurd (held-linked (m .new-held) (links-none (stateAt start calls t .rows) _ none new new-linked))
-            | inr is ↦ next-line ∙ is ]
+              | inl none ↦ absurd (held-linked (m .new-held) (links-none (stateAt start calls t .rows) _ none new new-linked))
+              | inr is ↦ next-line ∙ is
+            ]
 
         ended-so : (c : Current ready w t) → Continues ready (c .request) w (c .code) (c .key) (c .element) t → Cause t
         ended-so c (runs r same) = absurd (idle-not-busy (answers c) (r .busy (suc t) (r .since) (omega arith)))

@@ -125,16 +125,25 @@ module _ {top : ℕ} {start : Catalogue} {calls : List Call} (ready : Ready top 
           → (idle (lineAt start calls (suc u) w) ≡ true) ⊎ Current w (suc u)
       go (inr c) happens =
           elim (continues ready (c .request) w (c .code) (c .key) (c .element) u (c .running)) [
-            runs r same ↦ inr (record { request = c .request; code = c .code; key = c .key; element = c .element; running = r })
-          | ends-now a e ↦ inl (ap idle (e .finished .answered)) ]
+            | runs r same ↦ inr (record { request = c .request; code = c .code; key = c .key; element = c .element; running = r })
+            | ends-now a e ↦ inl (ap idle (e .finished .answered))
+          ]
       go (inl h) (nothing-happens e) = kept (ap (λ (c : Catalogue). workerAt (c .workers) w .line) e) h
       go (inl h) (submits v code key element a taken) = elim (ℕ-discrete w v) [
-          yes e ↦ inr (record { request = u; code = code; key = key; element = element; running =
-            begins ready u w code key element (subst (λ (x : ℕ). Request start calls u x code key element) (sym e) a) })
-        | no e ↦ kept (ap (λ (k : Worker). k .line) (taken .worker .others w e)) h ]
+        | yes e ↦ inr (record {
+          request = u;
+          code = code;
+          key = key;
+          element = element;
+          running =
+              begins ready u w code key element (subst (λ (x : ℕ). Request start calls u x code key element) (sym e) a);
+        })
+        | no e ↦ kept (ap (λ (k : Worker). k .line) (taken .worker .others w e)) h
+      ]
       go (inl h) (steps v a taken) = elim (ℕ-discrete w v) [
-          yes e ↦ absurd (clash h (ap (λ (x : ℕ). idle (lineAt start calls u x)) e ∙ taken .was-busy))
-        | no e ↦ kept (ap (λ (k : Worker). k .line) (taken .worker .others w e)) h ]
+        | yes e ↦ absurd (clash h (ap (λ (x : ℕ). idle (lineAt start calls u x)) e ∙ taken .was-busy))
+        | no e ↦ kept (ap (λ (k : Worker). k .line) (taken .worker .others w e)) h
+      ]
 
   -- two requests of one worker do not run at one time
   overlap : (s w code key element s' code' key' element' u : ℕ) → Running ready s w code key element u → Running ready s' w code' key' element' u → s < s' → ⊥
@@ -159,8 +168,9 @@ module _ {top : ℕ} {start : Catalogue} {calls : List Call} (ready : Ready top 
     where
       step : s < u → removedAt ready u w ≡ y → removedAt ready (suc u) w ≡ y
       step q before = elim (continues ready s w code key element u (ran s w code key element u (suc u) r q (omega arith))) [
-          ends-now a e ↦ absurd (ended-not-running s w u (suc u) a (e .finished) (omega arith) (r .busy))
-        | runs r' same ↦ elim same [ inl none ↦ absurd (some (sym before ∙ none)) | inr stays ↦ stays ∙ before ] ]
+        | ends-now a e ↦ absurd (ended-not-running s w u (suc u) a (e .finished) (omega arith) (r .busy))
+        | runs r' same ↦ elim same [ inl none ↦ absurd (some (sym before ∙ none)) | inr stays ↦ stays ∙ before ]
+      ]
 
       go : Dec (j ≡ suc u) → (j ≤ u → removedAt ready u w ≡ y) → removedAt ready (suc u) w ≡ y
       go (yes e) before = subst (λ (i : ℕ). removedAt ready i w ≡ y) e is

@@ -43,20 +43,28 @@ module _ (top : ℕ) (rowsAt : ℕ → List Row) (who : ℕ → ℕ) (sound : (i
   delete-2-tells k prev del fits unmarked was low high =
       if-known (Tells me rowsAt t u (delete k) 0) (hasKey (rowsAt u) del k)
       (λ same.
-        let found = has-key top (rowsAt u) del k fits .if-true same in
-        record {
-          next = record {
-            operation-same = refl;
-            past = (unmarked, unmarked-or-lacks (λ (i : ℕ). rowAt (rowsAt i)) who sound move t u prev del k was not-tail (omega (arith, low .low))
-              (found .no-end) (found .the-key));
-            removed-same = inl refl };
-          linking = inl tt })
+      let found = has-key top (rowsAt u) del k fits .if-true same in
+      record {
+        next = record {
+          operation-same = refl;
+          past = (
+            unmarked,
+            unmarked-or-lacks (λ (i : ℕ). rowAt (rowsAt i)) who sound move t u prev del k was not-tail (omega (arith, low .low))
+                (found .no-end) (found .the-key),
+          );
+          removed-same = inl refl;
+        };
+        linking = inl tt;
+      })
       (λ other.
-        let differ : rankOf top (rowAt (rowsAt u)) del ≢ suc k = has-key top (rowsAt u) del k fits .if-false other in
-        record {
-          next = (refl,
-            lacks-within (λ (i : ℕ). rowAt (rowsAt i)) who sound move t u prev del k was not-tail (omega (arith, low .low)) (omega (arith, high .high)));
-          linking = inl tt })
+      let differ : rankOf top (rowAt (rowsAt u)) del ≢ suc k = has-key top (rowsAt u) del k fits .if-false other in
+      record {
+        next = (
+          refl,
+          lacks-within (λ (i : ℕ). rowAt (rowsAt i)) who sound move t u prev del k was not-tail (omega (arith, low .low)) (omega (arith, high .high)),
+        );
+        linking = inl tt;
+      })
     where
       not-tail : prev ≢ 1
       not-tail = low-not-tail top (rowsAt u) prev k k fits (omega arith) low
@@ -95,16 +103,16 @@ module _ (top : ℕ) (rowsAt : ℕ → List Row) (who : ℕ → ℕ) (sound : (i
     tryFlag-4-tells =
         choose
         (λ (b : Bool). Tells me rowsAt t u (delete (f .key)) 0 (goWriting
-          (if b then OneRow (f .prev) (withSucc (rowAt (rowsAt u) (f .prev)) (succOf (f .target) false true)) else NoRow)
-          (if b then delete-6 f true
-           else if sameSucc (succAt (rowsAt u) (f .prev)) (succOf (f .target) false true) then delete-6 f false
-           else Flag TryFlag9 f)))
+        (if b then OneRow (f .prev) (withSucc (rowAt (rowsAt u) (f .prev)) (succOf (f .target) false true)) else NoRow)
+        (if b then delete-6 f true
+        else if sameSucc (succAt (rowsAt u) (f .prev)) (succOf (f .target) false true) then delete-6 f false
+        else Flag TryFlag9 f)))
         (sameSucc (succAt (rowsAt u) (f .prev)) (succOf (f .target) false false))
         (λ _. record { next = record { operation-same = refl; past = tt; removed-same = inl refl }; linking = inl (λ h. h) })
         (λ _. if-both (λ (l : Line). Tells me rowsAt t u (delete (f .key)) 0 (goWriting NoRow l))
-          (sameSucc (succAt (rowsAt u) (f .prev)) (succOf (f .target) false true))
-          (record { next = record { operation-same = refl; past = past; removed-same = inl refl }; linking = inl tt })
-          (record { next = record { operation-same = refl; past = (unmarked, past); removed-same = inl refl }; linking = inl tt }))
+        (sameSucc (succAt (rowsAt u) (f .prev)) (succOf (f .target) false true))
+        (record { next = record { operation-same = refl; past = past; removed-same = inl refl }; linking = inl tt })
+        (record { next = record { operation-same = refl; past = (unmarked, past); removed-same = inl refl }; linking = inl tt }))
 
     -- Line 9.
     tryFlag-9-tells : Tells me rowsAt t u (delete (f .key)) 0 (tryFlag-9 (rowsAt u) f)
@@ -118,11 +126,13 @@ module _ (top : ℕ) (rowsAt : ℕ → List Row) (who : ℕ → ℕ) (sound : (i
     tryFlag-10-tells : markOf (rowAt (rowsAt u)) (f .prev) ≡ true → Tells me rowsAt t u (delete (f .key)) 0 (tryFlag-10 (rowsAt u) f)
     unfolding tryFlag-10
     tryFlag-10-tells marked = record {
-        next = record {
-          operation-same = refl;
-          past = (marked-within (λ (i : ℕ). rowAt (rowsAt i)) who sound move t u (f .prev) since unmarked marked .back-unmarked, past);
-          removed-same = inl refl };
-        linking = inl tt }
+      next = record {
+        operation-same = refl;
+        past = (marked-within (λ (i : ℕ). rowAt (rowsAt i)) who sound move t u (f .prev) since unmarked marked .back-unmarked, past);
+        removed-same = inl refl;
+      };
+      linking = inl tt;
+    }
 
   pub flag-tells : (hs : List Pending) (f : FlagFrame) (l : FlagLine) → AllHold top me (rowAt (rowsAt u)) (facts (Flag l f) hs)
       → markOf (rowAt (rowsAt t)) (f .prev) ≡ false → UnmarkedOrLacks (λ (i : ℕ). rowAt (rowsAt i)) t u (f .key) (f .target)

@@ -41,8 +41,8 @@ module _ (top me : ℕ) (rows : List Row) (sound : Structure top (rowAt rows)) (
   delete-2-lawful k prev del fits alone low high =
       if-known (Lawful top me rows noRowHeld 0 hs) (hasKey rows del k)
       (λ same. let found = has-key top rows del k fits .if-true same in
-        read top me rows noRowHeld 0 hs _ refl refl
-        (fits, (alone, (low, (record { linked = high .linked; no-end = found .no-end; has-key = found .the-key }, tt)))))
+      read top me rows noRowHeld 0 hs _ refl refl
+      (fits, (alone, (low, (record { linked = high .linked; no-end = found .no-end; has-key = found .the-key }, tt)))))
       (λ _. read top me rows noRowHeld 0 hs _ refl refl tt)
 
   -- TryFlag, lines 12 and 13.
@@ -62,9 +62,13 @@ module _ (top me : ℕ) (rows : List Row) (sound : Structure top (rowAt rows)) (
     unfolding heldRow
     found-flagged fits alone save same =
         let found = same-succ (succAt rows (f .prev)) (succOf (f .target) false true) same in
-        read top me rows noRowHeld 0 hs _ refl refl (fits,
-          (flagged-for (ap (λ (s : Succ). s .flag) found) (ap (λ (s : Succ). s .right) found),
-          called-alone top me (rowAt rows) (f .key) 0 (Delete6 (f .target) false) hs (f .prev) (f .target) alone (refl, (save, tt))))
+        read top me rows noRowHeld 0 hs _ refl refl (
+          fits,
+          (
+            flagged-for (ap (λ (s : Succ). s .flag) found) (ap (λ (s : Succ). s .right) found),
+            called-alone top me (rowAt rows) (f .key) 0 (Delete6 (f .target) false) hs (f .prev) (f .target) alone (refl, (save, tt)),
+          ),
+        )
 
     -- Line 2.
     pub tryFlag-2-lawful : AllHold top me (rowAt rows) (facts (Flag TryFlag2 f) hs) → Lawful top me rows noRowHeld 0 hs (tryFlag-2 rows f)
@@ -80,16 +84,16 @@ module _ (top me : ℕ) (rows : List Row) (sound : Structure top (rowAt rows)) (
     tryFlag-4-lawful (fits, (alone, (low, (save, _)))) =
         choose
         (λ (b : Bool). Lawful top me rows noRowHeld 0 hs (goWriting
-          (if b then OneRow (f .prev) flagged-row else NoRow)
-          (if b then delete-6 f true
-           else if sameSucc (succAt rows (f .prev)) (succOf (f .target) false true) then delete-6 f false
-           else Flag TryFlag9 f)))
+        (if b then OneRow (f .prev) flagged-row else NoRow)
+        (if b then delete-6 f true
+        else if sameSucc (succAt rows (f .prev)) (succOf (f .target) false true) then delete-6 f false
+        else Flag TryFlag9 f)))
         (sameSucc (succAt rows (f .prev)) (succOf (f .target) false false))
         (λ same. flagged (same-succ _ _ same))
         (λ _. if-known (λ line. Lawful top me rows noRowHeld 0 hs (goWriting NoRow line))
-          (sameSucc (succAt rows (f .prev)) (succOf (f .target) false true))
-          (λ same. found-flagged fits alone save same)
-          (λ _. read top me rows noRowHeld 0 hs _ refl refl (fits, (alone, (low, (save, tt))))))
+        (sameSucc (succAt rows (f .prev)) (succOf (f .target) false true))
+        (λ same. found-flagged fits alone save same)
+        (λ _. read top me rows noRowHeld 0 hs _ refl refl (fits, (alone, (low, (save, tt))))))
       where
         flagged-row : Row
         flagged-row = withSucc (rowAt rows (f .prev)) (succOf (f .target) false true)
@@ -97,13 +101,19 @@ module _ (top me : ℕ) (rows : List Row) (sound : Structure top (rowAt rows)) (
         flagged : succAt rows (f .prev) ≡ succOf (f .target) false false
             → Lawful top me rows noRowHeld 0 hs (goWriting (OneRow (f .prev) flagged-row) (delete-6 f true))
         flagged found = record {
-            move = flags m;
-            known = (fits, (flagged-for (m .flag-prev) (m .right= (f .prev) ∙ m .prev-right),
+          move = flags m;
+          known = (
+            fits,
+            (
+              flagged-for (m .flag-prev) (m .right= (f .prev) ∙ m .prev-right),
               called-alone top me _ (f .key) 0 (Delete6 (f .target) true) hs (f .prev) (f .target) alone
-                (refl, (save-survives {u = me} sound (flags m) (f .target) (f .key) save, tt))));
-            named = λ x named h. named (sym (m .standing= x) ∙ h);
-            removal = claims m refl;
-            pushable = tt }
+                  (refl, (save-survives {u = me} sound (flags m) (f .target) (f .key) save, tt)),
+            ),
+          );
+          named = λ x named h. named (sym (m .standing= x) ∙ h);
+          removal = claims m refl;
+          pushable = tt;
+        }
           where
             m : FlagMove (rowAt rows) (rowAt (written rows (OneRow (f .prev) flagged-row))) (f .prev) (f .target)
             m = flag-written found (low .linked) (not-tail top me rows sound hs (f .prev) (f .key) fits low) (λ e. omega (arith, save .no-end))

@@ -14,7 +14,7 @@ use Rattle.order.specs.StructureFacts.{above-not-head}
 use Rattle.order.specs.PlainMap.{operation}
 use Rattle.order.specs.Lawful.{Removal, goes-on, claims, ends, noRowRemoved, removedRow}
 use Rattle.order.specs.Events.{StepTaken, effectIn}
-use Rattle.order.specs.SoundKept.{line-after, step-lawful}
+use Rattle.order.specs.SoundKept.{step-lawful}
 use Rattle.order.specs.Asking.{Agrees}
 use Rattle.order.specs.Demand.{stateAt, Accepts, Request, Finished, Removing}
 use Rattle.order.specs.Time.{Ready, Happening, nothing-happens, submits, steps, happening, sound-at, structure-at, step-taken, submit-taken}
@@ -25,6 +25,7 @@ use Rattle.order.specs.Moments.{reading, Kind, reads-only, is-full, adds
 use Rattle.order.specs.Removals.{MarkedAt, removal-marked}
 use Rattle.order.specs.MapChanges.{Change, adds, removes, change-unfinished}
 use Rattle.model.specs.State.{rowAt, workerAt, idle}
+use Rattle.model.specs.Answers.{line-after}
 use Rattle.model.specs.declared.Row.{Row}
 use Rattle.model.specs.declared.Succ.{Succ}
 use Rattle.model.specs.declared.Worker.{Worker}
@@ -104,7 +105,7 @@ module _ {top : ℕ} {start : Catalogue} {calls : List Call} (ready : Ready top 
       go (over f a h e) = absurd (ended-not-running ready s w f (length calls) a (e .finished) h (m .unfinished))
       go (under-way r) =
           let still = removes-on ready s w 3 (m .key) (m .element) (suc at) (length calls) (m .row) r (omega (arith, m .flagged .later))
-                (m .flagged .step .inside) removed-then (claimed .1) in
+          (m .flagged .step .inside) removed-then (claimed .1) in
           ((λ z. claimed .1 (sym still ∙ z)), rw still (m .marked))
 
   -- ---- Every fate ----
@@ -112,9 +113,10 @@ module _ {top : ℕ} {start : Catalogue} {calls : List Call} (ready : Ready top 
   -- nothing was submitted
   none-submitted : (s : ℕ) → ((w code key element : ℕ) → Request start calls s w code key element → ⊥) → Fate s
   none-submitted s none = no-place (record {
-      not-finished = λ w code key element f a r x. none w code key element r;
-      not-removing = λ w m. none w 3 (m .key) (m .element) (m .request);
-      not-changing = λ T c. of-change T c })
+    not-finished = λ w code key element f a r x. none w code key element r;
+    not-removing = λ w m. none w 3 (m .key) (m .element) (m .request);
+    not-changing = λ T c. of-change T c;
+  })
     where
       of-change : (T : ℕ) → Change ready s T → ⊥
       of-change T (adds w code key element e) = none w code key element (e .running .request)
@@ -130,11 +132,33 @@ module _ {top : ℕ} {start : Catalogue} {calls : List Call} (ready : Ready top 
       where
         go : Kind ready s w f (operation code key element) a → Fate s
         go (reads-only h r) = reads-at (r .moment) (record {
-            worker = w; code = code; key = key; element = element; finish = f; answer = a; ends-so = e;
-            later = r .later; until = r .until; stepper = r .worker; step = r .step; right = inr (h, r .agrees) })
+          worker = w;
+          code = code;
+          key = key;
+          element = element;
+          finish = f;
+          answer = a;
+          ends-so = e;
+          later = r .later;
+          until = r .until;
+          stepper = r .worker;
+          step = r .step;
+          right = inr (h, r .agrees);
+        })
         go (is-full h) = reads-at f (record {
-            worker = w; code = code; key = key; element = element; finish = f; answer = a; ends-so = e;
-            later = e .finished .later; until = omega arith; stepper = w; step = e .finished .step; right = inl h })
+          worker = w;
+          code = code;
+          key = key;
+          element = element;
+          finish = f;
+          answer = a;
+          ends-so = e;
+          later = e .finished .later;
+          until = omega arith;
+          stepper = w;
+          step = e .finished .step;
+          right = inl h;
+        })
         go (adds-kind h agrees) = changes-at f (adds w code key element (subst (Ends ready s w code key element f) h e))
         go (removes-kind x h r) =
             removal-fate f _ (removal-marked ready s w code key element f _ (e .running) refl (r .some-row) (r .marked)) (r .some-row)
@@ -143,13 +167,14 @@ module _ {top : ℕ} {start : Catalogue} {calls : List Call} (ready : Ready top 
     waiting : Running ready s w code key element (length calls)
         → (removedAt ready (length calls) w ≡ noRowRemoved) ⊎ (markOf (TableAt ready (length calls)) (removedAt ready (length calls) w) ≡ false) → Fate s
     waiting r none = no-place (record {
-        not-finished = λ w' code' key' element' f a q x.
+      not-finished = λ w' code' key' element' f a q x.
           ended-not-running ready s w f (length calls) a
-            (subst (λ (v : ℕ). Finished start calls s v f a) (same-request s w code key element w' code' key' element' request q .worker) x)
-            (x .step .inside) (r .busy);
-        not-removing = λ w' m.
+          (subst (λ (v : ℕ). Finished start calls s v f a) (same-request s w code key element w' code' key' element' request q .worker) x)
+          (x .step .inside) (r .busy);
+      not-removing = λ w' m.
           refuted (subst RemovesMarked (same-request s w code key element w' 3 (m .key) (m .element) request (m .request) .worker) (removes-now s w' m)) none;
-        not-changing = λ T c. refuted (change-unfinished ready s T w code key element c r) none })
+      not-changing = λ T c. refuted (change-unfinished ready s T w code key element c r) none;
+    })
       where
         refuted : RemovesMarked w
             → (removedAt ready (length calls) w ≡ noRowRemoved) ⊎ (markOf (TableAt ready (length calls)) (removedAt ready (length calls) w) ≡ false) → ⊥
@@ -163,7 +188,7 @@ module _ {top : ℕ} {start : Catalogue} {calls : List Call} (ready : Ready top 
       where
         go : Dec (removedAt ready (length calls) w ≡ noRowRemoved)
             → (markOf (TableAt ready (length calls)) (removedAt ready (length calls) w) ≡ true)
-              ⊎ (markOf (TableAt ready (length calls)) (removedAt ready (length calls) w) ≡ false)
+            ⊎ (markOf (TableAt ready (length calls)) (removedAt ready (length calls) w) ≡ false)
             → Fate s
         go (yes e) b = waiting r (inl e)
         go (no e) (inr b) = waiting r (inr b)
@@ -174,11 +199,11 @@ module _ {top : ℕ} {start : Catalogue} {calls : List Call} (ready : Ready top 
     where
       go : Happening start calls s → Fate s
       go (nothing-happens e) = none-submitted s (λ w code key element r.
-        clash (ap (λ (c : Catalogue). idle (workerAt (c .workers) w .line)) e ∙ submit-taken ready s w code key element r .was-idle)
+          clash (ap (λ (c : Catalogue). idle (workerAt (c .workers) w .line)) e ∙ submit-taken ready s w code key element r .was-idle)
           (begins ready s w code key element r .busy (suc s) (omega arith) (omega arith)))
       go (steps v a taken) = none-submitted s (λ w code key element r.
-        let e = same-call s (Submit w code key element) (Step v) r a in
-        let z : _≡_ {A = ℕ} 0 1 = cc in
-        omega arith)
+          let e = same-call s (Submit w code key element) (Step v) r a in
+          let z : _≡_ {A = ℕ} 0 1 = cc in
+          omega arith)
       go (submits w code key element a taken) =
           request-fate s w code key element a (course ready s w code key element a (length calls) (a .inside))

@@ -34,8 +34,9 @@ pub data LowestFree (rows : List Row) (first last row : ℕ) : Type 0 where
 
 none-free-before : (rows : List Row) (i last : ℕ) → standingOf (rowAt rows) i ≢ Free → NoneFree rows (i + 1) last → NoneFree rows i last
 none-free-before rows i last used later x low high = elim (ℕ-discrete x i) [
-    yes e ↦ λ free. used (ap (λ (y : ℕ). standingOf (rowAt rows) y) (sym e) ∙ free)
-  | no e ↦ later x (omega arith) high ]
+  | yes e ↦ λ free. used (ap (λ (y : ℕ). standingOf (rowAt rows) y) (sym e) ∙ free)
+  | no e ↦ later x (omega arith) high
+]
 
 lowest-from : (rows : List Row) (n i : ℕ) → LowestFree rows i (i + n) (lowestFreeFrom rows n i)
 unfolding lowestFreeFrom

@@ -12,11 +12,11 @@ use borrow.Author.Tests.{ltb-true, ltb-false}
 use Rattle.order.specs.Basics.{clash, free-linked}
 use Rattle.order.specs.FreeRows.{NoneFree, LowestFree, found, none, lowest-free}
 use Rattle.order.specs.Events.{effectIn}
-use Rattle.order.specs.SoundKept.{line-after}
 use Rattle.order.specs.Timeline.{grown-later}
 use Rattle.order.specs.Demand.{stateAt, lineAt, HasBeenLinked, IsHeld, NoRowLeft, LooksForRow, FullExactly}
 use Rattle.order.specs.Time.{Ready, sound-at, structure-at, mover-at, move-at, step-taken}
 use Rattle.model.specs.State.{rowAt, workerAt, helpAt, idle, succOf}
+use Rattle.model.specs.Answers.{line-after}
 use Rattle.model.specs.Choices.{if-both}
 use Rattle.model.specs.Order.{hasKey}
 use Rattle.model.specs.Cas.{sameSucc, flaggedOnly, succAt, withSucc}
@@ -171,8 +171,8 @@ insert-finds-none rows me f (Insert6 next new) h =
     absurd (clash h (if-both NotFullAfter (succAt rows (f .prev) .flag) refl refl))
 insert-finds-none rows me f (Insert11 next new) h =
     absurd (clash h (if-both NotFullAfter
-      (sameSucc (succAt (set rows new (withSucc (rowAt rows new) (succOf next false false))) (f .prev)) (succOf next false false)) refl
-      (if-both NotFull (flaggedOnly (succAt (set rows new (withSucc (rowAt rows new) (succOf next false false))) (f .prev))) refl refl)))
+    (sameSucc (succAt (set rows new (withSucc (rowAt rows new) (succOf next false false))) (f .prev)) (succOf next false false)) refl
+    (if-both NotFull (flaggedOnly (succAt (set rows new (withSucc (rowAt rows new) (succOf next false false))) (f .prev))) refl refl)))
 insert-finds-none rows me f (Insert17 new) h = absurd (clash h (if-both NotFullAfter (succAt rows (f .prev) .mark) refl refl))
 insert-finds-none rows me f (Insert18 new) h = absurd (clash h refl)
 
@@ -233,7 +233,7 @@ module _ {top : ℕ} {start : Catalogue} {calls : List Call} (ready : Ready top 
       only-if : lineAt start calls (suc i) w ≡ Idle Full → LooksForRow start calls i w × NoRowLeft start calls i
       only-if is =
           let n = finds-none (stateAt start calls i .rows) w (k .count) (helpAt (k .helps) (k .count - 1)) (lineAt start calls i w)
-                (busy-not-full (lineAt start calls i w) (step-taken ready i w accepts .was-busy)) (ap full (sym next-line ∙ is)) in
+          (busy-not-full (lineAt start calls i w) (step-taken ready i w accepts .was-busy)) (ap full (sym next-line ∙ is)) in
           ((n .next, n .frame, n .at-line-4), used i (n .none-free))
 
       if-so : LooksForRow start calls i w × NoRowLeft start calls i → lineAt start calls (suc i) w ≡ Idle Full

@@ -41,7 +41,7 @@ module _ (top me : ℕ) (rows : List Row) (sound : Structure top (rowAt rows)) (
       → UnlinkMove (rowAt rows) (swung rows prev right) prev del right
   unlinked found =
       unlink-written found frozen (one-written rows prev _
-        (linked-inside rows prev (sound .flag-regular prev (ap (λ (t : Succ). t .flag) found) .linked)))
+      (linked-inside rows prev (sound .flag-regular prev (ap (λ (t : Succ). t .flag) found) .linked)))
 
   pub help-marked-lawful : removedRow line ≡ removed
       → Lawful top me rows held removed hs (record { line = line; write = helpMarked-2 rows prev del right; stack = s })
@@ -60,24 +60,25 @@ module _ (top me : ℕ) (rows : List Row) (sound : Structure top (rowAt rows)) (
       if-known (λ (w : Write). Lawful top me rows held removed hs (record { line = line; write = w; stack = s }))
       (sameSucc (succAt rows prev) (succOf del false true))
       (λ same.
-        let m = unlinked (same-succ (succAt rows prev) (succOf del false true) same) in
-        with-removal
-        (shared top me rows held (removedRow line) hs _ sound (unlink-shared me sound m) pushable same-held refl known)
-        (ends removes-none (unlink-shared {top = top} me sound m .no-new-flag) (λ x h e. past m x h (e ∙ is-del))))
+      let m = unlinked (same-succ (succAt rows prev) (succOf del false true) same) in
+      with-removal
+      (shared top me rows held (removedRow line) hs _ sound (unlink-shared me sound m) pushable same-held refl known)
+      (ends removes-none (unlink-shared {top = top} me sound m .no-new-flag) (λ x h e. past m x h (e ∙ is-del))))
       (λ differs.
-        with-removal
-        (read-stacking top me rows held (removedRow line) hs line s pushable same-held refl known)
-        (ends removes-none (λ x h. h) (λ x h e. failed differs x h (e ∙ is-del))))
+      with-removal
+      (read-stacking top me rows held (removedRow line) hs line s pushable same-held refl known)
+      (ends removes-none (λ x h. h) (λ x h e. failed differs x h (e ∙ is-del))))
     where
       past : UnlinkMove (rowAt rows) (swung rows prev right) prev del right → (x : ℕ)
           → flagOf (swung rows prev right) x ≡ true → rightOf (swung rows prev right) x ≢ del
       past m x h e = elim (ℕ-discrete x prev) [
-          yes q ↦ clash h (ap (λ (y : ℕ). flagOf (swung rows prev right) y) q ∙ m .flag-prev)
-        | no q ↦ q (flagged-unique sound x prev (sym (m .flag-other x q) ∙ h) (m .prev-flagged) (sym (m .right-other x q) ∙ e ∙ sym (m .prev-right))) ]
+        | yes q ↦ clash h (ap (λ (y : ℕ). flagOf (swung rows prev right) y) q ∙ m .flag-prev)
+        | no q ↦ q (flagged-unique sound x prev (sym (m .flag-other x q) ∙ h) (m .prev-flagged) (sym (m .right-other x q) ∙ e ∙ sym (m .prev-right)))
+      ]
 
       failed : sameSucc (succAt rows prev) (succOf del false true) ≡ false → (x : ℕ) → flagOf (rowAt rows) x ≡ true → rightOf (rowAt rows) x ≢ del
       failed differs x h e =
           let q : prev ≡ x = help-unique sound prev x del (helping .help) (flagged-for h e) in
           let at-x : succAt rows x ≡ succOf del false true =
-                λ i. record { right = e i; mark = sound .flag-regular x h .unmarked i; flag = h i } in
+          λ i. record { right = e i; mark = sound .flag-regular x h .unmarked i; flag = h i } in
           clash (same-succ-refl _ _ (ap (succAt rows) q ∙ at-x)) differs

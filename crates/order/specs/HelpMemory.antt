@@ -45,23 +45,28 @@ module _ (top : ℕ) (rowsAt : ℕ → List Row) (who : ℕ → ℕ) (sound : (i
   returns-tell : (k e prev del right : ℕ) (caller : HelpCaller) → markOf (rowAt (rowsAt u)) del ≡ true
       → AllHold top me (rowAt (rowsAt u)) (helpCallerFacts k e del caller) → helpCallerPast (λ (i : ℕ). rowAt (rowsAt i)) t u k caller
       → Tells me rowsAt t u (helpOperation k e caller) (removedInHelp caller)
-          (goWriting (helpMarked-2 (rowsAt u) prev del right) (helpFlaggedReturns (rowsAt u) k e caller))
+      (goWriting (helpMarked-2 (rowsAt u) prev del right) (helpFlaggedReturns (rowsAt u) k e caller))
   unfolding helpFlaggedReturns delete-7 helpMarked-2
   returns-tell k e prev del right (Insert8 row new) marked known past = record {
-      next = record { operation-same = refl; past = (past, tt, tt); removed-same = inl refl };
-      linking = inl (cas-links-none (rowsAt u) prev _ _) }
+    next = record { operation-same = refl; past = (past, tt, tt); removed-same = inl refl };
+    linking = inl (cas-links-none (rowsAt u) prev _ _);
+  }
   returns-tell k e prev del right (Insert16 row new) marked known past = record {
-      next = record { operation-same = refl; past = past; removed-same = inl refl };
-      linking = inl (cas-links-none (rowsAt u) prev _ _) }
+    next = record { operation-same = refl; past = past; removed-same = inl refl };
+    linking = inl (cas-links-none (rowsAt u) prev _ _);
+  }
   returns-tell k e prev del right (Delete6 target true) marked (same, (save, _)) past = record {
-      next = record {
-        some-row = λ e. omega (arith, save .no-end);
-        marked = ap (markOf (rowAt (rowsAt u))) (sym same) ∙ marked;
-        has-element = refl };
-      linking = inl (cas-links-none (rowsAt u) prev _ _) }
+    next = record {
+      some-row = λ e. omega (arith, save .no-end);
+      marked = ap (markOf (rowAt (rowsAt u))) (sym same) ∙ marked;
+      has-element = refl;
+    };
+    linking = inl (cas-links-none (rowsAt u) prev _ _);
+  }
   returns-tell k e prev del right (Delete6 target false) marked (same, (save, _)) past = record {
-      next = (refl, target-gone k target save (ap (markOf (rowAt (rowsAt u))) (sym same) ∙ marked) past);
-      linking = inl (cas-links-none (rowsAt u) prev _ _) }
+    next = (refl, target-gone k target save (ap (markOf (rowAt (rowsAt u))) (sym same) ∙ marked) past);
+    linking = inl (cas-links-none (rowsAt u) prev _ _);
+  }
 
   module _ (f : HelpFrame) (past : helpCallerPast (λ (i : ℕ). rowAt (rowsAt i)) t u (f .key) (f .caller)) where
     abbrev TellsHelp : Effect → Type 0
@@ -72,16 +77,17 @@ module _ (top : ℕ) (rowsAt : ℕ → List Row) (who : ℕ → ℕ) (sound : (i
         → AllHold top me (rowAt (rowsAt u)) (facts (Help (HelpMarked2 right) f) hs) → TellsHelp (helpFlagged-4-helpMarked-2 (rowsAt u) count last f right)
     unfolding helpFlagged-4-helpMarked-2 helpMarked-2
     helpMarked-2-tells count last hs right (pending some newest) known = rw (ne-eqb count 0 some) (record {
-        next = record { operation-same = refl; past = past; removed-same = inr refl };
-        linking = inl (cas-links-none (rowsAt u) (f .prev) _ _) })
+      next = record { operation-same = refl; past = past; removed-same = inr refl };
+      linking = inl (cas-links-none (rowsAt u) (f .prev) _ _);
+    })
     helpMarked-2-tells count last hs right (nothing-pending none empty) known =
         rw (eq-eqb count 0 none)
         ((subst (λ (s : List Pending). AllHold top me (rowAt (rowsAt u)) (facts (Help (HelpMarked2 right) f) s)
-            → TellsHelp (goWriting (helpMarked-2 (rowsAt u) (f .prev) (f .del) right) (helpFlaggedReturns (rowsAt u) (f .key) (f .element) (f .caller))))
-          (sym empty)
-          (λ (fits, (helping, (frozen, rest))).
-            returns-tell (f .key) (f .element) (f .prev) (f .del) right (f .caller) (frozen .mark-set) rest past))
-          known)
+        → TellsHelp (goWriting (helpMarked-2 (rowsAt u) (f .prev) (f .del) right) (helpFlaggedReturns (rowsAt u) (f .key) (f .element) (f .caller))))
+        (sym empty)
+        (λ (fits, (helping, (frozen, rest))).
+        returns-tell (f .key) (f .element) (f .prev) (f .del) right (f .caller) (frozen .mark-set) rest past))
+        known)
 
     pub help-tells : (l : HelpLine) (count : ℕ) (last : Pending) (hs : List Pending) → Newest count last hs
         → AllHold top me (rowAt (rowsAt u)) (facts (Help l f) hs) → TellsHelp (helpLine (rowsAt u) count last f l)
@@ -98,10 +104,12 @@ module _ (top : ℕ) (rowsAt : ℕ → List Row) (who : ℕ → ℕ) (sound : (i
         if-both TellsHelp (flaggedOnly (succAt (rowsAt u) (f .del)))
         (record {
           next = record { operation-same = refl; past = past; removed-same = inr refl };
-          linking = inl (cas-links-none (rowsAt u) (f .del) _ _) })
+          linking = inl (cas-links-none (rowsAt u) (f .del) _ _);
+        })
         (record {
           next = record { operation-same = refl; past = past; removed-same = inr refl };
-          linking = inl (cas-links-none (rowsAt u) (f .del) _ _) })
+          linking = inl (cas-links-none (rowsAt u) (f .del) _ _);
+        })
     help-tells TryMark6 count last hs newest known =
         if-both TellsHelp (succAt (rowsAt u) (f .del) .mark)
         (record { next = record { operation-same = refl; past = past; removed-same = inr refl }; linking = inl tt })

@@ -51,12 +51,18 @@ module _ (top me : ℕ) (rows : List Row) (sound : Structure top (rowAt rows)) w
     pub helpFlagged-1-lawful : AllHold top me (rowAt rows) (facts (Help HelpFlagged1 f) hs) → LawfulHelp f hs (helpFlagged-1 rows f)
     unfolding helpFlagged-1 heldRow
     helpFlagged-1-lawful (fits, (help, rest)) = record {
-        move = s .move;
-        known = (fits, (record { back-is = m .back-del; help = help-survives sound (s .move) (f .prev) (f .del) help },
-          facts-survive top me sound (s .move) (s .leaves-held) (pendingFacts (f .key) (f .element) (f .caller) hs (f .prev) (f .del)) rest));
-        named = λ x named h. named (sym (s .standing= x) ∙ h);
-        removal = goes-on refl (s .no-new-flag);
-        pushable = tt }
+      move = s .move;
+      known = (
+        fits,
+        (
+          record { back-is = m .back-del; help = help-survives sound (s .move) (f .prev) (f .del) help },
+          facts-survive top me sound (s .move) (s .leaves-held) (pendingFacts (f .key) (f .element) (f .caller) hs (f .prev) (f .del)) rest,
+        ),
+      );
+      named = λ x named h. named (sym (s .standing= x) ∙ h);
+      removal = goes-on refl (s .no-new-flag);
+      pushable = tt;
+    }
       where
         m : BacklinkMove (rowAt rows) (rowAt (written rows (OneRow (f .del) (withBacklink (rowAt rows (f .del)) (f .prev))))) (f .prev) (f .del)
         m = backlink-written help (one-written rows (f .del) _ (linked-inside rows (f .del) (help-del-linked sound (f .prev) (f .del) help)))
@@ -83,24 +89,26 @@ module _ (top me : ℕ) (rows : List Row) (sound : Structure top (rowAt rows)) w
     tryMark-3-lawful right (fits, (helping, rest)) =
         if-known (LawfulHelp f hs) (flaggedOnly (succAt rows (f .del)))
         (λ flagged. if-known
-          (λ (w : Write). LawfulHelp f hs (record {
-            line = callHelpFlagged (f .key) (f .element) (f .del) (succAt rows (f .del) .right) (f .caller);
-            write = w;
-            stack = Push (record { prev = f .prev; del = f .del }) }))
-          (sameSucc (succAt rows (f .del)) (succOf right false false))
-          (λ same. absurd (clash (flagged-only (succAt rows (f .del)) flagged)
-            (ap (λ (s : Succ). s .flag) (same-succ (succAt rows (f .del)) (succOf right false false) same))))
-          (λ _. read-stacking top me rows _ _ hs _ (Push (record { prev = f .prev; del = f .del }))
-            (flagged-only (succAt rows (f .del)) flagged,
-              (refl, helping, chained top me (rowAt rows) (f .key) (f .element) (f .caller) hs (f .prev) (f .del) rest))
-            refl refl
-            (fits, (flagged-for (flagged-only (succAt rows (f .del)) flagged) refl, (refl, (helping, rest))))))
+        (λ (w : Write). LawfulHelp f hs (record {
+          line = callHelpFlagged (f .key) (f .element) (f .del) (succAt rows (f .del) .right) (f .caller);
+          write = w;
+          stack = Push (record { prev = f .prev; del = f .del });
+        }))
+        (sameSucc (succAt rows (f .del)) (succOf right false false))
+        (λ same. absurd (clash (flagged-only (succAt rows (f .del)) flagged)
+        (ap (λ (s : Succ). s .flag) (same-succ (succAt rows (f .del)) (succOf right false false) same))))
+        (λ _. read-stacking top me rows _ _ hs _ (Push (record { prev = f .prev; del = f .del })) (
+          flagged-only (succAt rows (f .del)) flagged,
+          (refl, helping, chained top me (rowAt rows) (f .key) (f .element) (f .caller) hs (f .prev) (f .del) rest),
+        )
+        refl refl
+        (fits, (flagged-for (flagged-only (succAt rows (f .del)) flagged) refl, (refl, (helping, rest))))))
         (λ _. if-known (λ (w : Write). LawfulHelp f hs (goWriting w (Help TryMark6 f)))
-          (sameSucc (succAt rows (f .del)) (succOf right false false))
-          (λ same. shared top me rows _ _ hs _ sound (mark-shared me sound (mark-written (same-succ (succAt rows (f .del)) _ same) helping
-            (one-written rows (f .del) _ (linked-inside rows (f .del) (help-del-linked sound (f .prev) (f .del) (helping .help))))))
-            tt refl refl (fits, (helping, rest)))
-          (λ _. read top me rows _ _ hs _ refl refl (fits, (helping, rest))))
+        (sameSucc (succAt rows (f .del)) (succOf right false false))
+        (λ same. shared top me rows _ _ hs _ sound (mark-shared me sound (mark-written (same-succ (succAt rows (f .del)) _ same) helping
+        (one-written rows (f .del) _ (linked-inside rows (f .del) (help-del-linked sound (f .prev) (f .del) (helping .help))))))
+        tt refl refl (fits, (helping, rest)))
+        (λ _. read top me rows _ _ hs _ refl refl (fits, (helping, rest))))
 
     -- TryMark, line 6.
     pub tryMark-6-lawful : AllHold top me (rowAt rows) (facts (Help TryMark6 f) hs) → LawfulHelp f hs (tryMark-6 rows f)
@@ -139,21 +147,22 @@ module _ (top me : ℕ) (rows : List Row) (sound : Structure top (rowAt rows)) w
   helpFlagged-4-helpMarked-2-lawful f count last hs right (nothing-pending none empty) known =
       rw (eq-eqb count 0 none)
       (subst (λ (s : List Pending). AllHold top me (rowAt rows) (facts (Help (HelpMarked2 right) f) s)
-          → LawfulHelp f s (goWriting (helpMarked-2 rows (f .prev) (f .del) right) (helpFlaggedReturns rows (f .key) (f .element) (f .caller))))
-        (sym empty)
-        (λ (fits, (helping, (frozen, rest))). returns-lawful (f .key) (f .element) (f .prev) (f .del) right (f .caller) fits helping frozen rest)
-        known)
+      → LawfulHelp f s (goWriting (helpMarked-2 rows (f .prev) (f .del) right) (helpFlaggedReturns rows (f .key) (f .element) (f .caller))))
+      (sym empty)
+      (λ (fits, (helping, (frozen, rest))). returns-lawful (f .key) (f .element) (f .prev) (f .del) right (f .caller) fits helping frozen rest)
+      known)
   helpFlagged-4-helpMarked-2-lawful f count last hs right (pending {rest = rest} some newest) known =
       rw (ne-eqb count 0 some)
       (subst (λ (s : List Pending). AllHold top me (rowAt rows) (facts (Help (HelpMarked2 right) f) s)
-          → LawfulHelp f s (record {
-            line = Help TryMark6 (record { key = f .key; element = f .element; prev = last .prev; del = last .del; caller = f .caller });
-            write = helpMarked-2 rows (f .prev) (f .del) right;
-            stack = Pop }))
-        (sym newest)
-        (λ (fits, (helping, (frozen, (_, (waiting, below))))).
-          help-marked-lawful top me rows sound _ _ (last ∷ rest) (f .prev) (f .del) right frozen _ Pop tt refl (fits, (waiting, below)) refl)
-        known)
+      → LawfulHelp f s (record {
+        line = Help TryMark6 (record { key = f .key; element = f .element; prev = last .prev; del = last .del; caller = f .caller });
+        write = helpMarked-2 rows (f .prev) (f .del) right;
+        stack = Pop;
+      }))
+      (sym newest)
+      (λ (fits, (helping, (frozen, (_, (waiting, below))))).
+      help-marked-lawful top me rows sound _ _ (last ∷ rest) (f .prev) (f .del) right frozen _ Pop tt refl (fits, (waiting, below)) refl)
+      known)
 
   pub help-lawful : (l : HelpLine) (f : HelpFrame) (count : ℕ) (last : Pending) (hs : List Pending) → Newest count last hs
       → AllHold top me (rowAt rows) (facts (Help l f) hs) → LawfulHelp f hs (helpLine rows count last f l)

@@ -74,7 +74,8 @@ module _ (top : ℕ) (rowsAt : ℕ → List Row) (who : ℕ → ℕ) (sound : (i
         if-both (Tells me rowsAt t u (insert (f .key) (f .element)) 0) (ltb (lowestFree (rowsAt u)) 128)
         (record {
           next = record { operation-same = refl; past = unmarked; removed-same = inl refl };
-          linking = inl (λ h. absurd (held-linked refl h)) })
+          linking = inl (λ h. absurd (held-linked refl h));
+        })
         (record { next = tt; linking = inl tt })
 
     -- Line 6.
@@ -94,9 +95,9 @@ module _ (top : ℕ) (rowsAt : ℕ → List Row) (who : ℕ → ℕ) (sound : (i
         (sameSucc (succAt (set (rowsAt u) new stored) (f .prev)) (succOf next false false))
         (record { next = linked; linking = inr refl })
         (if-both (λ (l : Line). Tells me rowsAt t u (insert (f .key) (f .element)) 0 (goWriting (OneRow new stored) l))
-          (flaggedOnly (succAt (set (rowsAt u) new stored) (f .prev)))
-          (record { next = record { operation-same = refl; past = unmarked; removed-same = inl refl }; linking = inl (λ h. h) })
-          (record { next = record { operation-same = refl; past = unmarked; removed-same = inl refl }; linking = inl (λ h. h) }))
+        (flaggedOnly (succAt (set (rowsAt u) new stored) (f .prev)))
+        (record { next = record { operation-same = refl; past = unmarked; removed-same = inl refl }; linking = inl (λ h. h) })
+        (record { next = record { operation-same = refl; past = unmarked; removed-same = inl refl }; linking = inl (λ h. h) }))
       where
         stored : Row
         stored = withSucc (rowAt (rowsAt u) new) (succOf next false false)
@@ -106,16 +107,17 @@ module _ (top : ℕ) (rowsAt : ℕ → List Row) (who : ℕ → ℕ) (sound : (i
 
         linked : LinksRow me (rowAt (rowsAt u))
             (rowAt (written (rowsAt u) (TwoRows new (linkedRow stored) (f .prev)
-              (withSucc (rowAt (set (rowsAt u) new (linkedRow stored)) (f .prev)) (succOf new false false)))))
+            (withSucc (rowAt (set (rowsAt u) new (linkedRow stored)) (f .prev)) (succOf new false false)))))
             (f .key) (f .element)
         linked = record {
-            row = new;
-            held = holding .held;
-            has-key = holding .has-key;
-            has-element = holding .has-element;
-            linked = ap (λ (r : Row). r .standing)
+          row = new;
+          held = holding .held;
+          has-key = holding .has-key;
+          has-element = holding .has-element;
+          linked = ap (λ (r : Row). r .standing)
               (two-written (rowsAt u) new (linkedRow stored) (f .prev) _ (held-inside (rowsAt u) new me (holding .held))
-                (linked-inside (rowsAt u) (f .prev) (low .linked)) differ .first) }
+              (linked-inside (rowsAt u) (f .prev) (low .linked)) differ .first);
+        }
 
     -- Line 17.
     insert-17-tells : (new : ℕ) → Tells me rowsAt t u (insert (f .key) (f .element)) 0 (insert-17 (rowsAt u) f new)
@@ -130,11 +132,13 @@ module _ (top : ℕ) (rowsAt : ℕ → List Row) (who : ℕ → ℕ) (sound : (i
         → Tells me rowsAt t u (insert (f .key) (f .element)) 0 (insert-18 (rowsAt u) f new)
     unfolding insert-18
     insert-18-tells new marked = record {
-        next = record {
-          operation-same = refl;
-          past = marked-within (λ (i : ℕ). rowAt (rowsAt i)) who sound move t u (f .prev) since unmarked marked .back-unmarked;
-          removed-same = inl refl };
-        linking = inl tt }
+      next = record {
+        operation-same = refl;
+        past = marked-within (λ (i : ℕ). rowAt (rowsAt i)) who sound move t u (f .prev) since unmarked marked .back-unmarked;
+        removed-same = inl refl;
+      };
+      linking = inl tt;
+    }
 
   pub insert-tells : (hs : List Pending) (f : InsertFrame) (l : InsertLine) → AllHold top me (rowAt (rowsAt u)) (facts (Insert l f) hs)
       → markOf (rowAt (rowsAt t)) (f .prev) ≡ false → Tells me rowsAt t u (insert (f .key) (f .element)) 0 (insertLine (rowsAt u) me f l)

@@ -76,17 +76,19 @@ module _ (top me : ℕ) (rows : List Row) (sound : Structure top (rowAt rows)) (
       → ((x : ℕ) → x ≢ new → standingOf (rowAt rows) x ≡ Held me → held ≡ x → heldRow line ≡ x)
       → removedRow line ≡ 0
       → (OneWritten (rowAt rows) (rowAt (written rows (OneRow new r))) new r
-        → Move top me (rowAt rows) (rowAt (written rows (OneRow new r)))
-        → AllHold top me (rowAt (written rows (OneRow new r))) (facts line hs))
+      → Move top me (rowAt rows) (rowAt (written rows (OneRow new r)))
+      → AllHold top me (rowAt (written rows (OneRow new r))) (facts line hs))
       → Lawful top me rows held 0 hs (goWriting (OneRow new r) line)
   privately held new r line before after unflagged unmarked size names-new names-other removes-none known = record {
-      move = private m;
-      known = known put (private m);
-      named = λ x named h. elim (ℕ-discrete x new) [
-          yes e ↦ names-new (ap (λ (s : Row). s .standing) (sym (put .here)) ∙ ap (λ (y : ℕ). standingOf R' y) (sym e) ∙ h) ∙ sym e
-        | no e ↦ let was = ap (λ (s : Row). s .standing) (sym (put .other x e)) ∙ h in names-other x e was (named was) ];
-      removal = goes-on removes-none (private-no-new-flag m);
-      pushable = tt }
+    move = private m;
+    known = known put (private m);
+    named = λ x named h. elim (ℕ-discrete x new) [
+      | yes e ↦ names-new (ap (λ (s : Row). s .standing) (sym (put .here)) ∙ ap (λ (y : ℕ). standingOf R' y) (sym e) ∙ h) ∙ sym e
+      | no e ↦ let was = ap (λ (s : Row). s .standing) (sym (put .other x e)) ∙ h in names-other x e was (named was)
+    ];
+    removal = goes-on removes-none (private-no-new-flag m);
+    pushable = tt;
+  }
     where
       R' : Table
       R' = rowAt (written rows (OneRow new r))
@@ -105,9 +107,9 @@ module _ (top me : ℕ) (rows : List Row) (sound : Structure top (rowAt rows)) (
   insert-20-lawful k e new prev next fits alone low high holding =
       if-known (Lawful top me rows new 0 hs) (hasKey rows prev k)
       (λ _. privately new new freeRow (Idle Duplicate) (inr (holding .held)) (inl refl) refl refl (held-inside rows new me (holding .held))
-        (λ h. let z : _≡_ {A = ℕ} 0 1 = cc in absurd (omega arith))
-        (λ x e h same. absurd (e (sym same)))
-        refl (λ put m. tt))
+      (λ h. let z : _≡_ {A = ℕ} 0 1 = cc in absurd (omega arith))
+      (λ x e h same. absurd (e (sym same)))
+      refl (λ put m. tt))
       (λ no-key. read top me rows new 0 hs _ refl refl (fits, (alone, (lower prev k fits low no-key, (high, (holding, tt))))))
 
   -- Line 4.
@@ -121,21 +123,37 @@ module _ (top me : ℕ) (rows : List Row) (sound : Structure top (rowAt rows)) (
     where
       taken : LowestFree rows 2 128 (lowestFree rows) → lowestFree rows < 128
           → Lawful top me rows noRowHeld 0 hs (goWriting
-            (OneRow (lowestFree rows) (record { key = f .key; element = f .element; backlink = 0; succ = succOf 0 false false; standing = Held me }))
-            (Insert (Insert6 next (lowestFree rows)) f))
+          (OneRow (lowestFree rows) (record { key = f .key; element = f .element; backlink = 0; succ = succOf 0 false false; standing = Held me }))
+          (Insert (Insert6 next (lowestFree rows)) f))
       taken (none e rest) small = absurd (omega arith)
       taken (found free first last rest) small =
           privately noRowHeld (lowestFree rows) _ (Insert (Insert6 next (lowestFree rows)) f) (inl free) (inr refl) refl refl (omega arith)
           (λ _. refl)
           (λ x e h same. absurd (omega (arith, same, held-inside rows x me h)))
           refl
-          (λ put m. (fits, (alone, (at-most-survives sound m (f .prev) (f .key) low, (above-survives sound m next (suc (f .key)) high, (record {
-            held = ap (λ (r : Row). r .standing) (put .here);
-            has-key = ap (λ (r : Row). r .key) (put .here);
-            has-element = ap (λ (r : Row). r .element) (put .here);
-            back-zero = ap (λ (r : Row). r .backlink) (put .here);
-            unmarked = ap (λ (r : Row). r .succ .mark) (put .here);
-            unflagged = ap (λ (r : Row). r .succ .flag) (put .here) }, tt))))))
+          (λ put m. (
+            fits,
+            (
+              alone,
+              (
+                at-most-survives sound m (f .prev) (f .key) low,
+                (
+                  above-survives sound m next (suc (f .key)) high,
+                  (
+                    record {
+                      held = ap (λ (r : Row). r .standing) (put .here);
+                      has-key = ap (λ (r : Row). r .key) (put .here);
+                      has-element = ap (λ (r : Row). r .element) (put .here);
+                      back-zero = ap (λ (r : Row). r .backlink) (put .here);
+                      unmarked = ap (λ (r : Row). r .succ .mark) (put .here);
+                      unflagged = ap (λ (r : Row). r .succ .flag) (put .here);
+                    },
+                    tt,
+                  ),
+                ),
+              ),
+            ),
+          ))
 
   -- Line 6.
   pub insert-6-lawful : (f : InsertFrame) (next new : ℕ) → AllHold top me (rowAt rows) (facts (Insert (Insert6 next new) f) hs)
@@ -143,8 +161,13 @@ module _ (top me : ℕ) (rows : List Row) (sound : Structure top (rowAt rows)) (
   unfolding insert-6 heldRow
   insert-6-lawful f next new (fits, (alone, (low, (high, (holding, _))))) =
       if-known (Lawful top me rows new 0 hs) (succAt rows (f .prev) .flag)
-      (λ flagged. read top me rows new 0 hs _ refl refl (fits, (flagged-for flagged refl,
-        called-alone top me (rowAt rows) (f .key) (f .element) (Insert8 (f .prev) new) hs (f .prev) _ alone (low, (holding, tt)))))
+      (λ flagged. read top me rows new 0 hs _ refl refl (
+        fits,
+        (
+          flagged-for flagged refl,
+          called-alone top me (rowAt rows) (f .key) (f .element) (Insert8 (f .prev) new) hs (f .prev) _ alone (low, (holding, tt)),
+        ),
+      ))
       (λ _. read top me rows new 0 hs _ refl refl (fits, (alone, (low, (high, (holding, tt))))))
 
   -- Lines 10 and 11, with 12, 13, 15 and 16.
@@ -155,11 +178,15 @@ module _ (top me : ℕ) (rows : List Row) (sound : Structure top (rowAt rows)) (
       if-known (Lawful top me rows new 0 hs) (sameSucc (succAt (set rows new stored) prev) (succOf next false false))
       (λ same. linked-in (sym (ap (λ (r : Row). r .succ) (unstored stored)) ∙ same-succ _ _ same))
       (λ _. if-known (λ (line : Line). Lawful top me rows new 0 hs (goWriting (OneRow new stored) line)) (flaggedOnly (succAt (set rows new stored) prev))
-        (λ flagged. prepared _ refl refl (λ put m. (fits,
-          (help-survives sound m prev _ (flagged-for (ap (λ (r : Row). r .succ .flag) (sym (unstored stored)) ∙ flagged-only _ flagged)
-            (ap (λ (r : Row). r .succ .right) (sym (unstored stored)))),
-          called-alone top me _ (f .key) (f .element) (Insert16 prev new) hs prev _ alone (at-most-survives sound m prev (f .key) low, (still-holding put, tt))))))
-        (λ _. prepared _ refl refl (λ put m. (fits, (alone, (at-most-survives sound m prev (f .key) low, (still-holding put, tt)))))))
+      (λ flagged. prepared _ refl refl (λ put m. (
+        fits,
+        (
+          help-survives sound m prev _ (flagged-for (ap (λ (r : Row). r .succ .flag) (sym (unstored stored)) ∙ flagged-only _ flagged)
+              (ap (λ (r : Row). r .succ .right) (sym (unstored stored)))),
+          called-alone top me _ (f .key) (f .element) (Insert16 prev new) hs prev _ alone (at-most-survives sound m prev (f .key) low, (still-holding put, tt)),
+        ),
+      )))
+      (λ _. prepared _ refl refl (λ put m. (fits, (alone, (at-most-survives sound m prev (f .key) low, (still-holding put, tt)))))))
     where
       prev : ℕ
       prev = f .prev
@@ -176,17 +203,18 @@ module _ (top me : ℕ) (rows : List Row) (sound : Structure top (rowAt rows)) (
 
       still-holding : {R' : Table} → OneWritten (rowAt rows) R' new stored → Holding me R' new (f .key) (f .element)
       still-holding put = record {
-          held = ap (λ (r : Row). r .standing) (put .here) ∙ holding .held;
-          has-key = ap (λ (r : Row). r .key) (put .here) ∙ holding .has-key;
-          has-element = ap (λ (r : Row). r .element) (put .here) ∙ holding .has-element;
-          back-zero = ap (λ (r : Row). r .backlink) (put .here) ∙ holding .back-zero;
-          unmarked = ap (λ (r : Row). r .succ .mark) (put .here);
-          unflagged = ap (λ (r : Row). r .succ .flag) (put .here) }
+        held = ap (λ (r : Row). r .standing) (put .here) ∙ holding .held;
+        has-key = ap (λ (r : Row). r .key) (put .here) ∙ holding .has-key;
+        has-element = ap (λ (r : Row). r .element) (put .here) ∙ holding .has-element;
+        back-zero = ap (λ (r : Row). r .backlink) (put .here) ∙ holding .back-zero;
+        unmarked = ap (λ (r : Row). r .succ .mark) (put .here);
+        unflagged = ap (λ (r : Row). r .succ .flag) (put .here);
+      }
 
       prepared : (line : Line) → heldRow line ≡ new → removedRow line ≡ 0
           → (OneWritten (rowAt rows) (rowAt (written rows (OneRow new stored))) new stored
-            → Move top me (rowAt rows) (rowAt (written rows (OneRow new stored)))
-            → AllHold top me (rowAt (written rows (OneRow new stored))) (facts line hs))
+          → Move top me (rowAt rows) (rowAt (written rows (OneRow new stored)))
+          → AllHold top me (rowAt (written rows (OneRow new stored))) (facts line hs))
           → Lawful top me rows new 0 hs (goWriting (OneRow new stored) line)
       prepared line names removes known =
           privately new new stored line (inr (holding .held)) (inr (holding .held)) refl refl (held-inside rows new me (holding .held))
@@ -194,16 +222,18 @@ module _ (top me : ℕ) (rows : List Row) (sound : Structure top (rowAt rows)) (
 
       linked-in : rowAt rows prev .succ ≡ succOf next false false
           → Lawful top me rows new 0 hs (goWriting
-            (TwoRows new (linkedRow stored) prev (withSucc (rowAt (set rows new (linkedRow stored)) prev) (succOf new false false)))
-            (Idle Added))
+          (TwoRows new (linkedRow stored) prev (withSucc (rowAt (set rows new (linkedRow stored)) prev) (succOf new false false)))
+          (Idle Added))
       linked-in same = record {
-          move = links m;
-          known = tt;
-          named = λ x named h. elim (ℕ-discrete x new) [
-              yes e ↦ absurd (held-linked h (ap (λ (y : ℕ). standingOf R' y) e ∙ m .new-linked))
-            | no e ↦ absurd (e (sym (named (sym (m .standing-other x e) ∙ h)))) ];
-          removal = goes-on refl (λ x h. sym (m .flag= x) ∙ h);
-          pushable = tt }
+        move = links m;
+        known = tt;
+        named = λ x named h. elim (ℕ-discrete x new) [
+          | yes e ↦ absurd (held-linked h (ap (λ (y : ℕ). standingOf R' y) e ∙ m .new-linked))
+          | no e ↦ absurd (e (sym (named (sym (m .standing-other x e) ∙ h))))
+        ];
+        removal = goes-on refl (λ x h. sym (m .flag= x) ∙ h);
+        pushable = tt;
+      }
         where
           linked-row : Row
           linked-row = linkedRow stored
@@ -226,7 +256,8 @@ module _ (top me : ℕ) (rows : List Row) (sound : Structure top (rowAt rows)) (
               (record {
                 first = put .first;
                 second = put .second ∙ ap (λ (r : Row). withSucc r (succOf new false false)) (unstored linked-row);
-                other = put .other })
+                other = put .other;
+              })
 
   -- Line 17.
   pub insert-17-lawful : (f : InsertFrame) (new : ℕ) → AllHold top me (rowAt rows) (facts (Insert (Insert17 new) f) hs)
@@ -236,13 +267,14 @@ module _ (top me : ℕ) (rows : List Row) (sound : Structure top (rowAt rows)) (
       if-known (Lawful top me rows new 0 hs) (succAt rows (f .prev) .mark)
       (λ marked. read top me rows new 0 hs _ refl refl (fits, (alone, (low, (marked, (holding, tt))))))
       (λ _. read top me rows new 0 hs _ refl refl
-        (fits, (alone, (record { linked = low .linked; low = omega (arith, low .low) }, (holding, tt)))))
+      (fits, (alone, (record { linked = low .linked; low = omega (arith, low .low) }, (holding, tt)))))
 
   -- a backlink leads down
   pub back-low : (x k : ℕ) → AtMost top (rowAt rows) x k → markOf (rowAt rows) x ≡ true → AtMost top (rowAt rows) (backOf (rowAt rows) x) k
   back-low x k h marked = record {
-      linked = sound .back-linked x (h .linked);
-      low = omega (arith, sound .back-below x (h .linked) (marked-not-head sound x marked), h .low) }
+    linked = sound .back-linked x (h .linked);
+    low = omega (arith, sound .back-below x (h .linked) (marked-not-head sound x marked), h .low);
+  }
 
   -- Line 18.
   pub insert-18-lawful : (f : InsertFrame) (new : ℕ) → AllHold top me (rowAt rows) (facts (Insert (Insert18 new) f) hs)

@@ -103,11 +103,12 @@ pub read-stacking : (top me : ℕ) (rows : List Row) (held removed : ℕ) (hs : 
     → Lawful top me rows held removed hs (record { line = line; write = NoRow; stack = s })
 unfolding written
 read-stacking top me rows held removed hs line s pushable same-held same-removed known = record {
-    move = nothing refl;
-    known = known;
-    named = λ x before h. same-held ∙ before h;
-    removal = goes-on same-removed (λ x h. h);
-    pushable = pushable }
+  move = nothing refl;
+  known = known;
+  named = λ x before h. same-held ∙ before h;
+  removal = goes-on same-removed (λ x h. h);
+  pushable = pushable;
+}
 
 pub read : (top me : ℕ) (rows : List Row) (held removed : ℕ) (hs : List Pending) (line : Line)
     → heldRow line ≡ held → removedRow line ≡ removed → AllHold top me (rowAt rows) (facts line hs)
@@ -126,24 +127,27 @@ pub record SharedMove (top me : ℕ) (R R' : Table) : Type 0 where
 module _ {top : ℕ} (me : ℕ) {R R' : Table} (sound : Structure top R) where
   pub mark-shared : {prev del : ℕ} → MarkMove R R' prev del → SharedMove top me R R'
   mark-shared m = record {
-      move = marks m;
-      standing= = m .standing=;
-      no-new-flag = λ x h. sym (m .flag= x) ∙ h;
-      leaves-held = λ x h. held-unchanged {u = me} sound (marks m) x tt h }
+    move = marks m;
+    standing= = m .standing=;
+    no-new-flag = λ x h. sym (m .flag= x) ∙ h;
+    leaves-held = λ x h. held-unchanged {u = me} sound (marks m) x tt h;
+  }
 
   pub unlink-shared : {prev del next : ℕ} → UnlinkMove R R' prev del next → SharedMove top me R R'
   unlink-shared {prev} m = record {
-      move = unlinks m;
-      standing= = m .standing=;
-      no-new-flag = λ x h. sym (m .flag-other x (λ e. clash h (cc (m .flag-prev)))) ∙ h;
-      leaves-held = λ x h. held-unchanged {u = me} sound (unlinks m) x tt h }
+    move = unlinks m;
+    standing= = m .standing=;
+    no-new-flag = λ x h. sym (m .flag-other x (λ e. clash h (cc (m .flag-prev)))) ∙ h;
+    leaves-held = λ x h. held-unchanged {u = me} sound (unlinks m) x tt h;
+  }
 
   pub backlink-shared : {prev del : ℕ} → BacklinkMove R R' prev del → SharedMove top me R R'
   backlink-shared m = record {
-      move = backlinks m;
-      standing= = m .standing=;
-      no-new-flag = λ x h. sym (m .flag= x) ∙ h;
-      leaves-held = λ x h. held-unchanged {u = me} sound (backlinks m) x tt h }
+    move = backlinks m;
+    standing= = m .standing=;
+    no-new-flag = λ x h. sym (m .flag= x) ∙ h;
+    leaves-held = λ x h. held-unchanged {u = me} sound (backlinks m) x tt h;
+  }
 
 -- the facts of the next line held already, and the worker goes on with what it holds and removes
 pub shared : (top me : ℕ) (rows : List Row) (held removed : ℕ) (hs : List Pending) (e : Effect) → Structure top (rowAt rows)
@@ -152,11 +156,12 @@ pub shared : (top me : ℕ) (rows : List Row) (held removed : ℕ) (hs : List Pe
     → heldRow (e .line) ≡ held → removedRow (e .line) ≡ removed → AllHold top me (rowAt rows) (facts (e .line) (stackAfter hs (e .stack)))
     → Lawful top me rows held removed hs e
 shared top me rows held removed hs e sound m pushable same-held same-removed known = record {
-    move = m .move;
-    known = facts-survive top me sound (m .move) (m .leaves-held) (facts (e .line) (stackAfter hs (e .stack))) known;
-    named = λ x before h. same-held ∙ before (sym (m .standing= x) ∙ h);
-    removal = goes-on same-removed (m .no-new-flag);
-    pushable = pushable }
+  move = m .move;
+  known = facts-survive top me sound (m .move) (m .leaves-held) (facts (e .line) (stackAfter hs (e .stack))) known;
+  named = λ x before h. same-held ∙ before (sym (m .standing= x) ∙ h);
+  removal = goes-on same-removed (m .no-new-flag);
+  pushable = pushable;
+}
 
 -- ---- A private move sets no flag ----
 

@@ -41,8 +41,12 @@ pub mod EveryLine
 pub mod Events
 pub mod Sound
 pub mod SoundKept
+pub mod LineKnows
 pub mod Owners
 pub mod Time
+pub mod Reached
+pub mod EightHelps
+pub mod NeverRefused
 pub mod Memory
 pub mod InsertMemory
 pub mod DeleteMemory

@@ -35,15 +35,17 @@ pub record LinkOf (top w : ℕ) (R R' : Table) (x : ℕ) : Type 0 where
 pub link-of : {top w v : ℕ} {R R' : Table} {x : ℕ} → Move top w R R' → standingOf R x ≡ Held v → standingOf R' x ≡ Linked → LinkOf top w R R' x
 link-of (nothing e) h k = absurd (held-linked h (cc))
 link-of {top} {w} {R = R} {R' = R'} {x = x} (links {prev = prev} {new = new} {next = next} m) h k = elim (ℕ-discrete x new) [
-    yes e ↦ record { prev = prev; next = next; move = subst (λ (y : ℕ). LinkMove top w R R' prev y next) (sym e) m }
-  | no e ↦ absurd (held-linked h (sym (m .standing-other x e) ∙ k)) ]
+  | yes e ↦ record { prev = prev; next = next; move = subst (λ (y : ℕ). LinkMove top w R R' prev y next) (sym e) m }
+  | no e ↦ absurd (held-linked h (sym (m .standing-other x e) ∙ k))
+]
 link-of {x = x} (marks m) h k = absurd (held-linked h (sym (m .standing= x) ∙ k))
 link-of {x = x} (unlinks m) h k = absurd (held-linked h (sym (m .standing= x) ∙ k))
 link-of {x = x} (flags m) h k = absurd (held-linked h (sym (m .standing= x) ∙ k))
 link-of {x = x} (backlinks m) h k = absurd (held-linked h (sym (m .standing= x) ∙ k))
 link-of {w = w} {R' = R'} {x = x} (private {new = new} m) h k = elim (ℕ-discrete x new) [
-    yes e ↦ absurd (mine e (m .after))
-  | no e ↦ absurd (held-linked h (ap (λ (r : Row). r .standing) (sym (m .other x e)) ∙ k)) ]
+  | yes e ↦ absurd (mine e (m .after))
+  | no e ↦ absurd (held-linked h (ap (λ (r : Row). r .standing) (sym (m .other x e)) ∙ k))
+]
   where
     mine : x ≡ new → (standingOf R' new ≡ Free) ⊎ (standingOf R' new ≡ Held w) → ⊥
     mine e (inl free) = free-linked free (ap (standingOf R') (sym e) ∙ k)

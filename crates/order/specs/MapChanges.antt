@@ -47,7 +47,7 @@ module _ {top : ℕ} {start : Catalogue} {calls : List Call} (ready : Ready top 
   by-request P s w code key element w' code' key' element' a b p =
       let e = same-request s w code key element w' code' key' element' a b in
       subst (λ (x : ℕ). P x code key element) (e .worker) (subst (λ (x : ℕ). P w' x key element) (e .code-same)
-        (subst (λ (x : ℕ). P w' code' x element) (e .key-same) (subst (P w' code' key') (e .element-same) p)))
+      (subst (λ (x : ℕ). P w' code' x element) (e .key-same) (subst (P w' code' key') (e .element-same) p)))
 
   pub marked-still : (t u y : ℕ) → t ≤ u → markOf (TableAt ready t) y ≡ true → markOf (TableAt ready u) y ≡ true
   marked-still t u y h m =
@@ -73,8 +73,11 @@ module _ {top : ℕ} {start : Catalogue} {calls : List Call} (ready : Ready top 
     where
       go : Dec (T ≤ f) → (T ≤ f) × (a ≡ Removed (TableAt ready f y .element))
       go (no h) = absurd (ended-not-running ready s w f T a (e .finished) (omega arith) (r .busy))
-      go (yes h) = (h, removal-answer ready s w code key element f y a e
-          (removes-on ready s w code key element T f y (e .running) (r .since) h is some) some)
+      go (yes h) = (
+        h,
+        removal-answer ready s w code key element f y a e
+            (removes-on ready s w code key element T f y (e .running) (r .since) h is some) some,
+      )
 
   -- ---- What becomes of a removal ----
 
@@ -93,8 +96,8 @@ module _ {top : ℕ} {start : Catalogue} {calls : List Call} (ready : Ready top 
         go : Course ready s w code key element (length calls) → Outcome s w code key element T y
         go (under-way q) =
             stays (removing ready s w code key element y q
-              (removes-on ready s w code key element T (length calls) y q (r .since) (omega (arith, inside)) is some) some
-              (marked-still (suc T) (length calls) y inside marked))
+            (removes-on ready s w code key element T (length calls) y q (r .since) (omega (arith, inside)) is some) some
+            (marked-still (suc T) (length calls) y inside marked))
         go (over f a h e) =
             let answer = ends-removed s w code key element T f y a r is some e in
             let linked = removes-save ready s w code key element T y r is some .save .linked in
@@ -135,7 +138,7 @@ module _ {top : ℕ} {start : Catalogue} {calls : List Call} (ready : Ready top 
   pub change-once : (s T T' : ℕ) → Change s T → Change s T' → T ≡ T'
   change-once s T T' (adds w code key element e) (adds w' code' key' element' e') =
       let e'' = by-request (λ v c k x. Ends ready s v c k x T' Added) s w code key element w' code' key' element'
-            (e .running .request) (e' .running .request) e' in
+      (e .running .request) (e' .running .request) e' in
       same-finish s w T T' Added Added (e .finished) (e'' .finished) .0
   change-once s T T' (adds w code key element e) (removes w' code' key' element' y r is some unmarked marked) =
       add-not-removal s w code key element w' code' key' element' T T' y e r is some
@@ -144,7 +147,7 @@ module _ {top : ℕ} {start : Catalogue} {calls : List Call} (ready : Ready top 
   change-once s T T' (removes w code key element y r is some unmarked marked) (removes w' code' key' element' y' r' is' some' unmarked' marked') =
       go (compared T T')
       (by-request (λ v c k x. Running ready s v c k x T' × (removedAt ready T' v ≡ y')) s w code key element w' code' key' element'
-        (r .request) (r' .request) (r', is'))
+      (r .request) (r' .request) (r', is'))
     where
       go : Compared T T' → Running ready s w code key element T' × (removedAt ready T' w ≡ y') → T ≡ T'
       go (less h) (q, i) = removal-before s w code key element T T' y y' r is some marked q i unmarked' h
@@ -186,8 +189,9 @@ module _ {top : ℕ} {start : Catalogue} {calls : List Call} (ready : Ready top 
     where
       one-row : y ≡ y'
       one-row = elim (ℕ-discrete y y') [
-          yes e ↦ e
-        | no e ↦ absurd (clash marked (mark-of (move-at ready T) unmarked' marked' .move .mark-other y e ∙ unmarked)) ]
+        | yes e ↦ e
+        | no e ↦ absurd (clash marked (mark-of (move-at ready T) unmarked' marked' .move .mark-other y e ∙ unmarked))
+      ]
 
   -- ---- What a request that changes the map is answered ----
 
@@ -195,7 +199,7 @@ module _ {top : ℕ} {start : Catalogue} {calls : List Call} (ready : Ready top 
       → (reading a ≡ false) × (a ≢ Full)
   change-ends s T w code key element f a (adds w' code' key' element' e') e =
       let e'' = by-request (λ v c k x. Ends ready s v c k x T Added) s w code key element w' code' key' element'
-            (e .running .request) (e' .running .request) e' in
+      (e .running .request) (e' .running .request) e' in
       let same = same-finish s w f T a Added (e .finished) (e'' .finished) .1 in
       (ap reading same, λ h. let z : _≡_ {A = ℕ} 0 1 = cc in omega arith)
   change-ends s T w code key element f a (removes w' code' key' element' y r is some unmarked marked) e =
@@ -211,7 +215,7 @@ module _ {top : ℕ} {start : Catalogue} {calls : List Call} (ready : Ready top 
       absurd (ended-not-running ready s w T (length calls) Added (e .finished) (e .finished .step .inside) (q .busy))
   change-unfinished s T w code key element (removes w' code' key' element' y r is some unmarked marked) q =
       let both = by-request (λ v c k x. Running ready s v c k x T × (removedAt ready T v ≡ y)) s w code key element w' code' key' element'
-            (q .request) (r .request) (r, is) in
+      (q .request) (r .request) (r, is) in
       let early = marking-step T y unmarked marked .1 .inside in
       let still = removes-on ready s w code key element T (length calls) y q (both .0 .since) (omega arith) (both .1) some in
       ((λ h. some (sym still ∙ h)), rw still (marked-still (suc T) (length calls) y early marked))

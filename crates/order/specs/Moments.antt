@@ -49,7 +49,13 @@ module _ {top : ℕ} {start : Catalogue} {calls : List Call} (ready : Ready top 
     where
       later : stateAt start calls (suc T) .rows ≡ stateAt start calls T .rows → StepFrom (suc T) f → StepFrom T f
       later same s = record {
-          moment = s .moment; from = omega (arith, s .from); until = s .until; worker = s .worker; step = s .step; rows-same = s .rows-same ∙ same }
+        moment = s .moment;
+        from = omega (arith, s .from);
+        until = s .until;
+        worker = s .worker;
+        step = s .step;
+        rows-same = s .rows-same ∙ same;
+      }
 
       go : Happening start calls T → StepFrom (suc T) f → StepFrom T f
       go (nothing-happens q) s = later (ap (λ (c : Catalogue). c .rows) q) s
@@ -76,7 +82,8 @@ module _ {top : ℕ} {start : Catalogue} {calls : List Call} (ready : Ready top 
         until = next .until;
         worker = next .worker;
         step = next .step;
-        agrees = subst (λ (m : PlainMap). Agrees m o a m) (same-rows-map ready T (next .moment) (sym (next .rows-same))) agrees }
+        agrees = subst (λ (m : PlainMap). Agrees m o a m) (same-rows-map ready T (next .moment) (sym (next .rows-same))) agrees;
+      }
 
   module _ (s f w : ℕ) (accepts : Accepts start calls f (Step w)) where
     has-reads : (k e : ℕ) (o : Operation) (a : Answer) → ((m : PlainMap) → m k ≡ some e → Agrees m o a m)

@@ -141,8 +141,9 @@ module _ {top : ℕ} {start : Catalogue} {calls : List Call} (ready : Ready top 
           → (List·Memᴰ p (orderFrom n (suc t)) → Stands n (suc t) p) → Stands (suc n) t p
       go (inl k) rest = reader (of-placed start calls t (readers t) p k)
       go (inr k) rest = elim (in-either p (placedAt start calls t (changers t)) (orderFrom n (suc t)) k) [
-          inl h ↦ changer (of-placed start calls t (changers t) p h)
-        | inr h ↦ later (rest h) ]
+        | inl h ↦ changer (of-placed start calls t (changers t) p h)
+        | inr h ↦ later (rest h)
+      ]
 
   pub in-order-from : (n t s T : ℕ) → t ≤ T → T < t + n → s < length calls → BelongsTo T s
       → List·Memᴰ (record { request = s; moment = T }) (orderFrom n t)
@@ -165,8 +166,9 @@ module _ {top : ℕ} {start : Catalogue} {calls : List Call} (ready : Ready top 
   order-sorted zero t = no-entry
   order-sorted (suc n) t =
       placed-in-order start calls t (readers t) _ (λ q m. elim (in-either q (placedAt start calls t (changers t)) (orderFrom n (suc t)) m) [
-        inl k ↦ omega (arith, of-placed start calls t (changers t) q k .0)
-      | inr k ↦ omega (arith, stands n (suc t) q k .from) ])
+        | inl k ↦ omega (arith, of-placed start calls t (changers t) q k .0)
+        | inr k ↦ omega (arith, stands n (suc t) q k .from)
+      ])
       (placed-in-order start calls t (changers t) (orderFrom n (suc t)) (λ q m. omega (arith, stands n (suc t) q m .from)) (order-sorted n (suc t)))
 
   pub order-once : (n t : ℕ) → Once start calls (orderFrom n t)
@@ -175,11 +177,12 @@ module _ {top : ℕ} {start : Catalogue} {calls : List Call} (ready : Ready top 
   order-once (suc n) t =
       once-append start calls (placedAt start calls t (readers t)) _ (placed-once start calls t (readers t) (picked-distinct (readsNow t) (length calls)))
       (once-append start calls (placedAt start calls t (changers t)) (orderFrom n (suc t))
-        (placed-once start calls t (changers t) (picked-distinct (changesNow t) (length calls))) (order-once n (suc t))
-        (λ p q m k e. later p q (inr (changer p m .1)) (changer p m .0) (stands n (suc t) q k) e))
+      (placed-once start calls t (changers t) (picked-distinct (changesNow t) (length calls))) (order-once n (suc t))
+      (λ p q m k e. later p q (inr (changer p m .1)) (changer p m .0) (stands n (suc t) q k) e))
       (λ p q m k e. elim (in-either q (placedAt start calls t (changers t)) (orderFrom n (suc t)) k) [
-        inl h ↦ one-way (p .request) t t (reader p m .1) (rw e (changer q h .1))
-      | inr h ↦ later p q (inl (reader p m .1)) (reader p m .0) (stands n (suc t) q h) e ])
+        | inl h ↦ one-way (p .request) t t (reader p m .1) (rw e (changer q h .1))
+        | inr h ↦ later p q (inl (reader p m .1)) (reader p m .0) (stands n (suc t) q h) e
+      ])
     where
       reader : (p : Placed start calls) → List·Memᴰ p (placedAt start calls t (readers t)) → (p .moment ≡ t) × (readsNow t (p .request) ≡ true)
       reader p m =

@@ -1,7 +1,7 @@
 -- Demand 3, proved: for any calls from the empty catalogue; and from any state in which no worker is busy, the rows have their structure and
 -- no flag is without an owner, with the map of its chain.
 use Prim.Native.Nat.{ℕ, _+_, _≤_, _<_}
-use mathlib.Core.Path.{_≡_, refl, ap, sym, subst}
+use mathlib.Core.Path.{_≡_, refl, sym, subst}
 use mathlib.Core.List.{List, List·Memᴰ}
 use mathlib.Core.Option.{Option, none, some}
 use native.Mathlib.Omega.{arith}
@@ -11,20 +11,18 @@ use Rattle.order.specs.TableMap.{Has, shown-has, has-shown}
 use Rattle.order.specs.Walk.{walk-meets-chain}
 use Rattle.order.specs.PlainMap.{PlainMap, emptyMap}
 use Rattle.order.specs.MapOfTable.{Entry, IsMapOf, empty-map, map-has}
-use Rattle.order.specs.Sound.{empty-sound, all-fresh}
-use Rattle.order.specs.SoundKept.{topOver, keys-fit, top-positive}
-use Rattle.order.specs.Owners.{empty-owned}
+use Rattle.order.specs.Sound.{empty-sound}
 use Rattle.order.specs.Demand.{stateAt, Placed, Ordered, FullExactly, UnmarkedSave, HoldsTheChain, DemandThree}
 use Rattle.order.specs.Time.{Ready, state-end, sound-at, structure-at}
+use Rattle.order.specs.Reached.{empty-ready}
 use Rattle.order.specs.MapAt.{mapAt, is-map-at, is-the-map}
 use Rattle.order.specs.Placing.{once-at}
 use Rattle.order.specs.OrderOfRun.{orderFrom, HasPlace, has-place, stands, in-order-from, order-sorted, order-once, entry-of, moment-of}
 use Rattle.order.specs.Replay.{order-replays}
 use Rattle.order.specs.FullAnswer.{full-exactly}
-use Rattle.model.specs.State.{rowAt, idle, emptyCatalogue}
+use Rattle.model.specs.State.{rowAt, emptyCatalogue}
 use Rattle.model.specs.Run.{run}
 use Rattle.model.specs.declared.Row.{Row}
-use Rattle.model.specs.declared.Worker.{Worker}
 use Rattle.model.specs.declared.Catalogue.{Catalogue}
 use Rattle.model.specs.declared.Call.{Call}
 
@@ -40,7 +38,8 @@ module _ {top : ℕ} (rows : List Row) (small : length rows ≤ 128) (sound : St
         save = walk-meets-chain rows small sound .met-save (s .row) (s .met);
         unmarked = s .unmarked;
         has-key = s .key;
-        has-element = s .element }
+        has-element = s .element;
+      }
 
   was-saved : (k e : ℕ) → UnmarkedSave rows k e → Has (rowAt rows) k e
   was-saved k e u =
@@ -62,33 +61,38 @@ module _ {top : ℕ} (rows : List Row) (small : length rows ≤ 128) (sound : St
     where
       go : (k : ℕ) (o : Option ℕ) → m k ≡ o → Entry (rowAt rows) k o
       go k (some e) is = was-saved k e (holds k e .0 is)
-      go k none is = record { none = λ row regular save key.
-        let has : Has (rowAt rows) k (rowAt rows row .element) = record { row = row; regular = regular; save = save; key = key; element = refl } in
-        let held = holds k (rowAt rows row .element) .1 (saved k (rowAt rows row .element) has) in
-        let z : _≡_ {A = ℕ} 0 1 = cc in
-        omega arith }
+      go k none is = record {
+        none = λ row regular save key.
+            let has : Has (rowAt rows) k (rowAt rows row .element) = record { row = row; regular = regular; save = save; key = key; element = refl } in
+            let held = holds k (rowAt rows row .element) .1 (saved k (rowAt rows row .element) has) in
+            let z : _≡_ {A = ℕ} 0 1 = cc in
+            omega arith;
+      }
 
 -- ---- Any run that may begin ----
 
 module _ {top : ℕ} {start : Catalogue} {calls : List Call} (ready : Ready top start calls) where
   in-it : (s : ℕ) → s < length calls → HasPlace ready s
       → (p : Placed start calls) × (p .request ≡ s) × List·Memᴰ p (orderFrom ready (length calls) 0)
-  in-it s inside h =
-      (record { request = s; moment = h .moment }, refl,
-        in-order-from ready (length calls) 0 s (h .moment) (omega arith) (omega (arith, h .inside)) inside (h .belongs))
+  in-it s inside h = (
+    record { request = s; moment = h .moment },
+    refl,
+    in-order-from ready (length calls) 0 s (h .moment) (omega arith) (omega (arith, h .inside)) inside (h .belongs),
+  )
 
   pub run-ordered : Ordered start calls (mapAt ready 0) (mapAt ready (length calls))
   run-ordered = record {
-      order = orderFrom ready (length calls) 0;
-      finished-in = λ s w code key element f a r x. in-it s (r .inside) (has-place ready s (λ n. n .not-finished w code key element f a r x));
-      removing-in = λ s w m. in-it s (m .request .inside) (has-place ready s (λ n. n .not-removing w m));
-      nothing-else = λ p m. entry-of ready p (stands ready (length calls) 0 p m .belongs);
-      each-once = once-at start calls (order-once ready (length calls) 0);
-      moments = λ p m. moment-of ready p (stands ready (length calls) 0 p m .belongs);
-      in-order = order-sorted ready (length calls) 0;
-      replays =
+    order = orderFrom ready (length calls) 0;
+    finished-in = λ s w code key element f a r x. in-it s (r .inside) (has-place ready s (λ n. n .not-finished w code key element f a r x));
+    removing-in = λ s w m. in-it s (m .request .inside) (has-place ready s (λ n. n .not-removing w m));
+    nothing-else = λ p m. entry-of ready p (stands ready (length calls) 0 p m .belongs);
+    each-once = once-at start calls (order-once ready (length calls) 0);
+    moments = λ p m. moment-of ready p (stands ready (length calls) 0 p m .belongs);
+    in-order = order-sorted ready (length calls) 0;
+    replays =
         let e : 0 + length calls ≡ length calls = omega arith in
-        rw e at (order-replays ready (length calls) 0) }
+        rw e at (order-replays ready (length calls) 0);
+  }
 
 -- Demand 3 from any state, whose chain the map `before` holds.
 pub record DemandFrom (start : Catalogue) (calls : List Call) (before : PlainMap) : Type 0 where
@@ -101,25 +105,19 @@ pub demand-from : {top : ℕ} (start : Catalogue) (calls : List Call) (before : 
     → DemandFrom start calls before
 unfolding stateAt run
 demand-from start calls before ready holds = record {
-    after = mapAt ready (length calls);
-    ordered = subst (λ (m : PlainMap). Ordered start calls m (mapAt ready (length calls))) (sym first) (run-ordered ready);
-    ends = subst (λ (c : Catalogue). HoldsTheChain (mapAt ready (length calls)) (c .rows)) (state-end start calls)
+  after = mapAt ready (length calls);
+  ordered = subst (λ (m : PlainMap). Ordered start calls m (mapAt ready (length calls))) (sym first) (run-ordered ready);
+  ends = subst (λ (c : Catalogue). HoldsTheChain (mapAt ready (length calls)) (c .rows)) (state-end start calls)
       (map-holds-chain (stateAt start calls (length calls) .rows) (omega (arith, sound-at ready (length calls) .row-count)) (structure-at ready (length calls))
-        (mapAt ready (length calls)) (is-map-at ready (length calls)));
-    full = full-exactly ready }
+      (mapAt ready (length calls)) (is-map-at ready (length calls)));
+  full = full-exactly ready;
+}
   where
     first : before ≡ mapAt ready 0
     first = is-the-map ready 0 before
         (chain-held-is-map (start .rows) (omega (arith, ready .sound .row-count)) (ready .sound .structure) before holds)
 
 -- ---- The empty catalogue ----
-
-pub empty-ready : (calls : List Call) → Ready (topOver calls) emptyCatalogue calls
-empty-ready calls = record {
-    sound = empty-sound (topOver calls) (top-positive calls);
-    owned = empty-owned;
-    at-rest = λ w. ap (λ (k : Worker). idle (k .line)) (all-fresh w);
-    fits = keys-fit (topOver calls) calls (omega arith) }
 
 empty-holds : HoldsTheChain emptyMap (emptyCatalogue .rows)
 empty-holds = map-holds-chain (emptyCatalogue .rows) (omega arith) (empty-sound 1 (omega arith) .structure) emptyMap empty-map

@@ -1,37 +1,34 @@
 -- Flags have owners: each set flag is that of one unfinished delete, whose outermost help it is, and no two deletes own one row.
-use Prim.Native.Nat.{ℕ, _≤_, _<_}
-use mathlib.Core.Bool.{Bool, true, false}
+use Prim.Native.Nat.{ℕ}
+use mathlib.Core.Bool.{true, false}
 use mathlib.Core.Path.{_≡_, refl, ap, sym, _∙_, subst}
-use mathlib.Core.Logic.{_≢_, _⊎_, inl, inr}
+use mathlib.Core.Logic.{_≢_}
 use mathlib.Core.List.{List, [], _∷_}
-use native.Mathlib.Omega.{arith}
-use native.Mathlib.Decide.{ℕ-discrete, decLt}
+use native.Mathlib.Decide.{ℕ-discrete}
 use lib.Dec.{eqb}
-use lib.ListN.{length, List·getD-eq-default}
 use Rattle.order.specs.Basics.{clash}
 use Rattle.order.specs.Table.{Table, rightOf, flagOf}
 use Rattle.order.specs.Structure.{Structure, Helpable, flagged-for, already-marked}
-use Rattle.order.specs.StructureFacts.{above-not-head, flagged-right-above, predecessor-unique, flagged-not-tail, help-unique}
+use Rattle.order.specs.StructureFacts.{above-not-head, flagged-right-above, predecessor-unique, flagged-not-tail}
 use Rattle.order.specs.Moves.{Move, nothing, links, marks, unlinks, flags, backlinks, private, FlagMove}
-use Rattle.order.specs.EmptyTable.{emptyTable, empty-unflagged}
+use Rattle.order.specs.EmptyTable.{empty-unflagged}
 use Rattle.order.specs.Stack.{stackOf}
-use Rattle.order.specs.Facts.{Fact, AllHold, helpFacts, pendingFacts, facts}
+use Rattle.order.specs.Facts.{AllHold, pendingFacts, facts}
+use Rattle.order.specs.LineKnows.{running-help}
 use Rattle.order.specs.Lawful.{Removal, goes-on, claims, ends, noRowRemoved, removedInHelp, removedRow}
-use Rattle.order.specs.Events.{Event, refused, submitted, stepped, Submitted, StepTaken, effectIn, each-worker, call-event}
+use Rattle.order.specs.Events.{Event, refused, submitted, stepped, Submitted, StepTaken, effectIn, each-worker}
 use Rattle.order.specs.Sound.{Sound, all-fresh}
-use Rattle.order.specs.SoundKept.{line-after, step-lawful}
-use Rattle.model.specs.State.{if_then_else_, rowAt, workerAt, idleWorker, idle, emptyCatalogue}
+use Rattle.order.specs.SoundKept.{step-lawful}
+use Rattle.model.specs.State.{rowAt, workerAt, idle, emptyCatalogue}
+use Rattle.model.specs.Answers.{line-after}
 use Rattle.model.specs.Choices.{if-both}
-use Rattle.model.specs.Step.{written, workerAfter, firstLine}
-use Rattle.model.specs.declared.Answer.the-variants.{NoAnswer}
+use Rattle.model.specs.Step.{written, firstLine}
 use Rattle.model.specs.declared.Row.{Row}
 use Rattle.model.specs.declared.Worker.{Worker}
 use Rattle.model.specs.declared.Catalogue.{Catalogue}
 use Rattle.model.specs.declared.Pending.{Pending}
 use Rattle.model.specs.declared.HelpCaller.{HelpCaller}
 use Rattle.model.specs.declared.HelpCaller.the-variants.{Insert8, Insert16, Delete6}
-use Rattle.model.specs.declared.HelpLine.{HelpLine}
-use Rattle.model.specs.declared.HelpLine.the-variants.{HelpFlagged1, HelpFlagged2, TryMark2, TryMark3, TryMark6, HelpMarked1, HelpMarked2}
 use Rattle.model.specs.declared.Line.{Line}
 use Rattle.model.specs.declared.Line.the-variants.{Idle, Search, Insert, Flag, Help}
 use Rattle.model.specs.declared.Stepped.{Stepped}
@@ -64,16 +61,6 @@ helpedFrom (Flag l f) hs = 0
 helpedFrom (Help l f) hs = outermostPrev hs (f .prev)
 
 module _ (top w : ℕ) (R : Table) where
-  running-help : (l : HelpLine) (prev del : ℕ) (rest : List Fact) → AllHold top w R (helpFacts l prev del rest)
-      → Helpable R prev del × AllHold top w R rest
-  running-help HelpFlagged1 prev del rest (help, known) = (help, known)
-  running-help HelpFlagged2 prev del rest (helping, known) = (helping .help, known)
-  running-help TryMark2 prev del rest (helping, known) = (helping .help, known)
-  running-help (TryMark3 right) prev del rest (helping, known) = (helping .help, known)
-  running-help TryMark6 prev del rest (helping, known) = (helping .help, known)
-  running-help HelpMarked1 prev del rest (helping, (marked, known)) = (helping .help, known)
-  running-help (HelpMarked2 right) prev del rest (helping, (frozen, known)) = (helping .help, known)
-
   outermost-help : (key element target : ℕ) (hs : List Pending) (prev del : ℕ) → Helpable R prev del
       → AllHold top w R (pendingFacts key element (Delete6 target true) hs prev del) → Helpable R (outermostPrev hs prev) target
   outermost-help key element target [] prev del help (same, _) = subst (Helpable R prev) same help
@@ -96,7 +83,7 @@ module _ (top w : ℕ) (R : Table) where
   removed-helpable (Insert l f) hs known some = absurd (some refl)
   removed-helpable (Flag l f) hs known some = absurd (some refl)
   removed-helpable (Help l f) hs (fits, known) some =
-      let both = running-help l (f .prev) (f .del) _ known in
+      let both = running-help top w R l (f .prev) (f .del) _ known in
       by-caller (f .key) (f .element) (f .caller) hs (f .prev) (f .del) (both .0) (both .1) some
 
 -- ---- Every event keeps the owners ----
@@ -115,7 +102,7 @@ flag-keeps-right (private m) p h h' = ap (λ (r : Row). r .succ .right) (m .othe
 claim-free : {top : ℕ} {R R' : Table} {prev target p : ℕ} → Structure top R → FlagMove R R' prev target → Helpable R p target → ⊥
 claim-free {prev = prev} {p = p} sound m (flagged-for h e) =
     clash (cc (predecessor-unique sound p prev (sound .flag-regular p h) (m .prev-regular) (flagged-not-tail sound p h) (m .prev-not-tail)
-      (e ∙ sym (m .prev-right)))) (m .prev-unflagged)
+    (e ∙ sym (m .prev-right)))) (m .prev-unflagged)
 claim-free {prev = prev} sound m (already-marked h e) =
     clash (sound .marked-is-flagged prev (m .prev-regular) (m .prev-not-tail) (rw (m .prev-right) h)) (m .prev-unflagged)
 
@@ -135,17 +122,18 @@ idle-removes-none (Help l f) h = absurd (clash h refl)
 -- the same rows flagged, and every worker removes what it removed
 same-owners : {c c' : Catalogue} → c' .rows ≡ c .rows → ((v : ℕ) → removedBy c' v ≡ removedBy c v) → Owned c → Owned c'
 same-owners {c} {c'} rows same owned = record {
-    owner = λ p h.
+  owner = λ p h.
       let o = owned .owner p (subst (λ (rows : List Row). flagOf (rowAt rows) p ≡ true) rows h) in
       record { worker = o .worker; removes = same (o .worker) ∙ o .removes ∙ ap (λ (rows : List Row). rightOf (rowAt rows) p) (sym rows) };
-    only = λ u v row some mine theirs. owned .only u v row some (sym (same u) ∙ mine) (sym (same v) ∙ theirs) }
+  only = λ u v row some mine theirs. owned .only u v row some (sym (same u) ∙ mine) (sym (same v) ∙ theirs);
+}
 
 module _ {top : ℕ} {c c' : Catalogue} (sound : Sound top c) (owned : Owned c) where
   submit-keeps-owned : (w code key element : ℕ) → Submitted c c' w code key element → Owned c'
   submit-keeps-owned w code key element s = same-owners {c = c} {c' = c'} (s .rows-same)
       (each-worker (s .worker) (λ v k. removedRow (k .line) ≡ removedBy c v)
-        (first-removes-none code key element ∙ sym (idle-removes-none (workerAt (c .workers) w .line) (s .was-idle)))
-        (λ v differ. refl))
+      (first-removes-none code key element ∙ sym (idle-removes-none (workerAt (c .workers) w .line) (s .was-idle)))
+      (λ v differ. refl))
       owned
 
   -- worker w removed `before` and now removes `after`
@@ -163,19 +151,21 @@ module _ {top : ℕ} {c c' : Catalogue} (sound : Sound top c) (owned : Owned c) 
         let o = owned .owner p h in
         let same = flag-keeps-right m p h h' in
         elim (ℕ-discrete (o .worker) w) [
-          yes e ↦ record { worker = w; removes = now-removes ∙ goes (ap (removedBy c) (sym e) ∙ o .removes ∙ sym same) }
-        | no e ↦ record { worker = o .worker; removes = still-removes (o .worker) e ∙ o .removes ∙ sym same } ]
+          | yes e ↦ record { worker = w; removes = now-removes ∙ goes (ap (removedBy c) (sym e) ∙ o .removes ∙ sym same) }
+          | no e ↦ record { worker = o .worker; removes = still-removes (o .worker) e ∙ o .removes ∙ sym same }
+        ]
 
     step-owner : (R' : Table) → Move top w (rowAt (c .rows)) R' → Removal (rowAt (c .rows)) R' (removedBy c w) (removedRow (effectIn c w .line))
         → (p : ℕ) → flagOf R' p ≡ true → Owner c' (rightOf R' p)
     step-owner R' m (goes-on same no-new) p h = kept-owner p R' m (no-new p h) h (λ e. same ∙ e)
     step-owner R' m (ends none no-new gone) p h = kept-owner p R' m (no-new p h) h (λ e. absurd (gone p h (sym e)))
     step-owner R' m (claims {prev = prev} claim none) p h = elim (ℕ-discrete p prev) [
-        yes e ↦ record { worker = w; removes = now-removes ∙ sym (ap (rightOf R') e ∙ claim .right= prev ∙ claim .prev-right) }
+      | yes e ↦ record { worker = w; removes = now-removes ∙ sym (ap (rightOf R') e ∙ claim .right= prev ∙ claim .prev-right) }
       | no e ↦
           let was = sym (claim .flag-other p e) ∙ h in
           kept-owner p R' m was h (λ q. absurd (above-not-head top (rowAt (c .rows)) p (rightOf (rowAt (c .rows)) p)
-            (flagged-right-above (sound .structure) p was) (sym (claim .right= p) ∙ sym q ∙ none))) ]
+          (flagged-right-above (sound .structure) p was) (sym (claim .right= p) ∙ sym q ∙ none)))
+    ]
 
     -- w and another worker
     not-shared : (R' : Table) → Removal (rowAt (c .rows)) R' (removedBy c w) (removedRow (effectIn c w .line)) → (v row : ℕ) → v ≢ w
@@ -185,15 +175,16 @@ module _ {top : ℕ} {c c' : Catalogue} (sound : Sound top c) (owned : Owned c) 
     not-shared R' (ends none no-new gone) v row differ some mine theirs = some (sym mine ∙ none)
     not-shared R' (claims claim none) v row differ some mine theirs =
         claim-free (sound .structure) claim (subst (Helpable (rowAt (c .rows)) (helpedFrom (workerAt (c .workers) v .line) (stackOf (workerAt (c .workers) v))))
-          (theirs ∙ sym mine)
-          (removed-helpable top v (rowAt (c .rows)) (workerAt (c .workers) v .line) (stackOf (workerAt (c .workers) v)) (sound .known v)
-            (λ e. some (sym theirs ∙ e))))
+        (theirs ∙ sym mine)
+        (removed-helpable top v (rowAt (c .rows)) (workerAt (c .workers) v .line) (stackOf (workerAt (c .workers) v)) (sound .known v)
+        (λ e. some (sym theirs ∙ e))))
 
     step-keeps-owned : Owned c'
     step-keeps-owned = record {
-        owner = subst (λ (rows : List Row). (p : ℕ) → flagOf (rowAt rows) p ≡ true → Owner c' (rightOf (rowAt rows) p)) (sym (s .rows-written))
+      owner = subst (λ (rows : List Row). (p : ℕ) → flagOf (rowAt rows) p ≡ true → Owner c' (rightOf (rowAt rows) p)) (sym (s .rows-written))
           (step-owner (rowAt (written (c .rows) (effectIn c w .write))) (step-lawful top c c' sound w s .move) (step-lawful top c c' sound w s .removal));
-        only = λ u v row some mine theirs. one u v row some mine theirs (ℕ-discrete u w) (ℕ-discrete v w) }
+      only = λ u v row some mine theirs. one u v row some mine theirs (ℕ-discrete u w) (ℕ-discrete v w);
+    }
       where
         one : (u v row : ℕ) → row ≢ noRowRemoved → removedBy c' u ≡ row → removedBy c' v ≡ row → Dec (u ≡ w) → Dec (v ≡ w) → u ≡ v
         one u v row some mine theirs (yes a) (yes b) = a ∙ sym b
@@ -210,5 +201,6 @@ event-keeps-owned sound owned (stepped w small is v s') = step-keeps-owned sound
 
 pub empty-owned : Owned emptyCatalogue
 empty-owned = record {
-    owner = λ p h. absurd (clash h (empty-unflagged p));
-    only = λ u v row some mine theirs. absurd (some (sym mine ∙ ap (λ (k : Worker). removedRow (k .line)) (all-fresh u))) }
+  owner = λ p h. absurd (clash h (empty-unflagged p));
+  only = λ u v row some mine theirs. absurd (some (sym mine ∙ ap (λ (k : Worker). removedRow (k .line)) (all-fresh u)));
+}

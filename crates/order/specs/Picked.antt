@@ -37,8 +37,9 @@ module _ (p : ℕ → Bool) where
 
       go : (p n ≡ true) ⊎ (p n ≡ false) → Among s (picked p (suc n)) → (Among s (picked p n) → (s < n) × (p s ≡ true)) → (s < suc n) × (p s ≡ true)
       go (inl yes-n) k rest = elim (List·Memᴰ·cases-cons (rw (yes-n, picked) at k)) [
-          inl e ↦ (omega arith, ap p e ∙ yes-n)
-        | inr q ↦ more (rest q) ]
+        | inl e ↦ (omega arith, ap p e ∙ yes-n)
+        | inr q ↦ more (rest q)
+      ]
       go (inr no-n) k rest = more (rest (rw (no-n, picked) at k))
 
   pub picked-distinct : (n : ℕ) → Distinct (picked p n)

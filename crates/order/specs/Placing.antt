@@ -73,8 +73,9 @@ module _ (start : Catalogue) (calls : List Call) where
   unfolding placedAt
   in-placed t s [] m = absurd (List·Memᴰ·not-nil m)
   in-placed t s (x ∷ xs) m = elim (List·Memᴰ·cases-cons m) [
-      inl e ↦ List·Memᴰ·head (λ i. record { request = e i; moment = t })
-    | inr k ↦ List·Memᴰ·tail (in-placed t s xs k) ]
+    | inl e ↦ List·Memᴰ·head (λ i. record { request = e i; moment = t })
+    | inr k ↦ List·Memᴰ·tail (in-placed t s xs k)
+  ]
 
   pub of-placed : (t : ℕ) (xs : List ℕ) (p : Placed start calls) → List·Memᴰ p (placedAt t xs) → (p .moment ≡ t) × Among (p .request) xs
   unfolding placedAt

@@ -4,7 +4,7 @@ use Prim.Native.Nat.{ℕ, suc, _≤_, _<_}
 use mathlib.Core.Bool.{Bool, true, false}
 use mathlib.Core.Path.{_≡_, refl, ap, sym, _∙_, subst}
 use mathlib.Core.Logic.{_≢_, _⊎_, inl, inr}
-use mathlib.Core.List.{List, [], _∷_}
+use mathlib.Core.List.{List}
 use native.Mathlib.Omega.{arith}
 use lib.Dec.{eqb}
 use lib.ListN.{length}
@@ -12,12 +12,13 @@ use borrow.Author.Tests.{eqb-false, leb-true}
 use Rattle.order.specs.Basics.{clash}
 use Rattle.order.specs.Table.{Table, markOf}
 use Rattle.order.specs.StructureFacts.{above-not-head, unflagged-right-unmarked}
-use Rattle.order.specs.Facts.{Fact, SaveOf, AllHold, helpFacts, pendingFacts, facts}
+use Rattle.order.specs.Facts.{SaveOf, AllHold, facts}
+use Rattle.order.specs.LineKnows.{Targets, in-help, targets-operation, target-known}
 use Rattle.order.specs.Stack.{stackOf}
 use Rattle.order.specs.Timeline.{marked-within}
 use Rattle.order.specs.PlainMap.{Operation, operation, search, insert, delete}
 use Rattle.order.specs.Lawful.{noRowRemoved, removedRow, removedInHelp}
-use Rattle.order.specs.Memory.{Answered, RemovesRow, operationOf, helpOperation}
+use Rattle.order.specs.Memory.{Answered, RemovesRow, operationOf}
 use Rattle.order.specs.Demand.{stateAt, lineAt, Request, SetFlag, Removing}
 use Rattle.order.specs.Time.{Ready, sound-at, structure-at, mover-at, move-at, submit-taken}
 use Rattle.order.specs.Running.{TableAt, removedAt, Claimed, Running, Ends}
@@ -30,8 +31,8 @@ use Rattle.model.specs.declared.Answer.{Answer}
 use Rattle.model.specs.declared.Answer.the-variants.{NoAnswer, Found, Absent, Added, Duplicate, Removed, Full}
 use Rattle.model.specs.declared.HelpCaller.{HelpCaller}
 use Rattle.model.specs.declared.HelpCaller.the-variants.{Insert8, Insert16, Delete6}
+use Rattle.model.specs.declared.HelpFrame.{HelpFrame}
 use Rattle.model.specs.declared.HelpLine.{HelpLine}
-use Rattle.model.specs.declared.HelpLine.the-variants.{HelpFlagged1, HelpFlagged2, TryMark2, TryMark3, TryMark6, HelpMarked1, HelpMarked2}
 use Rattle.model.specs.declared.Line.{Line}
 use Rattle.model.specs.declared.Line.the-variants.{Idle, Search, Insert, Flag, Help}
 use Rattle.model.specs.declared.Call.{Call}
@@ -45,30 +46,21 @@ pub record RemovesSave (R : Table) (o : Operation) (row : ℕ) : Type 0 where
   pub save : SaveOf R row key
 
 module _ (top w : ℕ) (R : Table) where
-  under-help : (l : HelpLine) (prev del : ℕ) (rest : List Fact) → AllHold top w R (helpFacts l prev del rest) → AllHold top w R rest
-  under-help HelpFlagged1 prev del rest known = known .1
-  under-help HelpFlagged2 prev del rest known = known .1
-  under-help TryMark2 prev del rest known = known .1
-  under-help (TryMark3 right) prev del rest known = known .1
-  under-help TryMark6 prev del rest known = known .1
-  under-help HelpMarked1 prev del rest known = known .1 .1
-  under-help (HelpMarked2 right) prev del rest known = known .1 .1
-
-  caller-removes : (key element : ℕ) (caller : HelpCaller) (hs : List Pending) (prev del : ℕ) → AllHold top w R (pendingFacts key element caller hs prev del)
-      → removedInHelp caller ≢ noRowRemoved → RemovesSave R (helpOperation key element caller) (removedInHelp caller)
-  caller-removes key element caller (h ∷ hs) prev del (same, (helping, known)) some = caller-removes key element caller hs (h .prev) (h .del) known some
-  caller-removes key element (Insert8 row new) [] prev del known some = absurd (some refl)
-  caller-removes key element (Insert16 row new) [] prev del known some = absurd (some refl)
-  caller-removes key element (Delete6 target true) [] prev del (same, (save, _)) some = record { key = key; is-delete = refl; save = save }
-  caller-removes key element (Delete6 target false) [] prev del known some = absurd (some refl)
+  target-removed : (l : HelpLine) (f : HelpFrame) (hs : List Pending) (caller : HelpCaller) → f .caller ≡ caller → AllHold top w R (facts (Help l f) hs)
+      → removedInHelp caller ≢ noRowRemoved → RemovesSave R (operationOf (Help l f)) (removedInHelp caller)
+  target-removed l f hs (Insert8 row new) e known some = absurd (some refl)
+  target-removed l f hs (Insert16 row new) e known some = absurd (some refl)
+  target-removed l f hs (Delete6 target true) e known some =
+      let targets : Targets (Help l f) target (f .key) = in-help e in
+      record { key = f .key; is-delete = targets-operation targets; save = target-known top w R hs targets known }
+  target-removed l f hs (Delete6 target false) e known some = absurd (some refl)
 
   removed-save : (l : Line) (hs : List Pending) → AllHold top w R (facts l hs) → removedRow l ≢ noRowRemoved → RemovesSave R (operationOf l) (removedRow l)
   removed-save (Idle a) hs known some = absurd (some refl)
   removed-save (Search l f) hs known some = absurd (some refl)
   removed-save (Insert l f) hs known some = absurd (some refl)
   removed-save (Flag l f) hs known some = absurd (some refl)
-  removed-save (Help l f) hs (fits, known) some =
-      caller-removes (f .key) (f .element) (f .caller) hs (f .prev) (f .del) (under-help l (f .prev) (f .del) _ known) some
+  removed-save (Help l f) hs known some = target-removed l f hs (f .caller) refl known some
 
 -- ---- The code of a delete ----
 
@@ -99,7 +91,7 @@ module _ {top : ℕ} {start : Catalogue} {calls : List Call} (ready : Ready top 
   removes-save s w code key element u y r is some =
       rw (r .operation-is, is) at
       (removed-save top w (TableAt ready u) (lineAt start calls u w) (stackOf (workerAt (stateAt start calls u .workers) w))
-        (sound-at ready u .known w) (λ e. some (sym is ∙ e)))
+      (sound-at ready u .known w) (λ e. some (sym is ∙ e)))
 
   -- ---- What a removal answers ----
 
@@ -148,7 +140,8 @@ module _ {top : ℕ} {start : Catalogue} {calls : List Call} (ready : Ready top 
         running = ran ready s w code key element (m .time) u r (omega (arith, c .later)) (omega (arith, m .before));
         removes = c .removes (m .time) low (omega (arith, m .before));
         unmarked = m .regular .unmarked;
-        marked = m .marked }
+        marked = m .marked;
+      }
     where
       clear : markOf (TableAt ready (suc (c .at))) y ≡ false
       clear = c .flag .mark= y ∙ (rw (c .flag .prev-right) at
@@ -167,16 +160,17 @@ module _ {top : ℕ} {start : Catalogue} {calls : List Call} (ready : Ready top 
 
   set-flag : {s w u y : ℕ} → Claimed ready s w u y → SetFlag start calls s w y
   set-flag c = record {
-      at = c .at;
-      prev = c .prev;
-      later = c .later;
-      step = c .step;
-      before = λ i. record { right = c .flag .prev-right i; mark = c .flag .prev-regular .unmarked i; flag = c .flag .prev-unflagged i };
-      after =
+    at = c .at;
+    prev = c .prev;
+    later = c .later;
+    step = c .step;
+    before = λ i. record { right = c .flag .prev-right i; mark = c .flag .prev-regular .unmarked i; flag = c .flag .prev-unflagged i };
+    after =
         let right = c .flag .right= (c .prev) ∙ c .flag .prev-right in
         let mark = c .flag .mark= (c .prev) ∙ c .flag .prev-regular .unmarked in
         let flag = c .flag .flag-prev in
-        λ i. record { right = right i; mark = mark i; flag = flag i } }
+        λ i. record { right = right i; mark = mark i; flag = flag i };
+  }
 
   -- the request of a removal is a delete
   pub record Deletes (s w code key element : ℕ) : Type 0 where
@@ -190,7 +184,8 @@ module _ {top : ℕ} {start : Catalogue} {calls : List Call} (ready : Ready top 
       let d = delete-code code key element (m .key) (submit-taken ready s w code key element (r .request) .is-request) (m .is-delete) in
       record {
         request = subst (λ (c : ℕ). Request start calls s w c key element) (d .three) (r .request);
-        operation-same = ap (λ (c : ℕ). operation c key element) (d .three) }
+        operation-same = ap (λ (c : ℕ). operation c key element) (d .three);
+      }
 
   pub removing : (s w code key element y : ℕ) → Running ready s w code key element (length calls) → removedAt ready (length calls) w ≡ y → y ≢ noRowRemoved
       → markOf (TableAt ready (length calls)) y ≡ true → Removing start calls s w
@@ -199,10 +194,11 @@ module _ {top : ℕ} {start : Catalogue} {calls : List Call} (ready : Ready top 
       go : (removedAt ready (length calls) w ≡ noRowRemoved) ⊎ Claimed ready s w (length calls) (removedAt ready (length calls) w) → Removing start calls s w
       go (inl none) = absurd (some (sym is ∙ none))
       go (inr c) = record {
-          key = key;
-          element = element;
-          request = deletes s w code key element (length calls) y r is some .request;
-          unfinished = r .busy;
-          row = y;
-          flagged = set-flag (subst (Claimed ready s w (length calls)) is c);
-          marked = marked }
+        key = key;
+        element = element;
+        request = deletes s w code key element (length calls) y r is some .request;
+        unfinished = r .busy;
+        row = y;
+        flagged = set-flag (subst (Claimed ready s w (length calls)) is c);
+        marked = marked;
+      }

@@ -120,9 +120,9 @@ module _ {top : ℕ} {start : Catalogue} {calls : List Call} (ready : Ready top 
       let e : t + suc n ≡ suc t + n = omega arith in
       rw e
       (reads-replay t (picked (readsNow ready t) (length calls))
-        (λ s m. reads-now ready t s (picked-passes (readsNow ready t) s (length calls) m .1))
-        (changes-replay t (picked (changesNow ready t) (length calls))
-          (λ s m. changes-now ready t s (picked-passes (changesNow ready t) s (length calls) m .1))
-          (picked-distinct (changesNow ready t) (length calls))
-          (λ s c. in-picked (changesNow ready t) s (length calls) (change-inside s t c) (change-known ready t s c))
-          (order-replays n (suc t))))
+      (λ s m. reads-now ready t s (picked-passes (readsNow ready t) s (length calls) m .1))
+      (changes-replay t (picked (changesNow ready t) (length calls))
+      (λ s m. changes-now ready t s (picked-passes (changesNow ready t) s (length calls) m .1))
+      (picked-distinct (changesNow ready t) (length calls))
+      (λ s c. in-picked (changesNow ready t) s (length calls) (change-inside s t c) (change-known ready t s c))
+      (order-replays n (suc t))))

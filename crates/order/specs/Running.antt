@@ -14,12 +14,13 @@ use Rattle.order.specs.Moves.{FlagMove}
 use Rattle.order.specs.PlainMap.{Operation, operation, search, insert, delete}
 use Rattle.order.specs.Lawful.{Removal, goes-on, claims, ends, noRowRemoved, removedRow}
 use Rattle.order.specs.Events.{StepTaken, effectIn}
-use Rattle.order.specs.SoundKept.{line-after, step-lawful}
+use Rattle.order.specs.SoundKept.{step-lawful}
 use Rattle.order.specs.Demand.{stateAt, lineAt, Accepts, Request, BusySince, Finished}
 use Rattle.order.specs.Memory.{Past, past-still, operationOf, Answered, GoesOn, NextLine, Tells}
 use Rattle.order.specs.LineMemory.{effect-tells}
 use Rattle.order.specs.Time.{Ready, Happening, nothing-happens, submits, steps, happening, sound-at, structure-at, mover-at, move-at, submit-taken}
 use Rattle.model.specs.State.{if_then_else_, rowAt, workerAt, idle}
+use Rattle.model.specs.Answers.{line-after}
 use Rattle.model.specs.Effects.{callSearchFrom}
 use Rattle.model.specs.Step.{written, firstLine}
 use Rattle.model.specs.declared.Row.{Row}
@@ -43,7 +44,7 @@ first-line P code key element s i d = go (eqb code 1) (eqb code 2)
   where
     go : (a b : Bool)
         → P (if a then callSearchFrom key 0 0 Search1 else if b then callSearchFrom key element 0 Insert1 else callSearchFrom key 0 0 Delete1)
-          (if a then search key else if b then insert key element else delete key)
+        (if a then search key else if b then insert key element else delete key)
     go true b = s
     go false true = i
     go false false = d
@@ -86,14 +87,15 @@ module _ {top : ℕ} {start : Catalogue} {calls : List Call} (ready : Ready top 
 
   pub begins : (s w code key element : ℕ) → Request start calls s w code key element → Running s w code key element (suc s)
   begins s w code key element r = record {
-      request = r;
-      since = omega arith;
-      busy = λ j low high.
+    request = r;
+    since = omega arith;
+    busy = λ j low high.
         let e : j ≡ suc s = omega arith in
         rw e (first (λ l o. idle l ≡ false) refl refl refl);
-      operation-is = first (λ l o. operationOf l ≡ o) refl refl refl;
-      past = first (λ l o. Past TableAt (suc s) (suc s) l) (head, tt, tt) (head, tt, tt) (head, tt, tt);
-      claim = inl (first (λ l o. removedRow l ≡ noRowRemoved) refl refl refl) }
+    operation-is = first (λ l o. operationOf l ≡ o) refl refl refl;
+    past = first (λ l o. Past TableAt (suc s) (suc s) l) (head, tt, tt) (head, tt, tt) (head, tt, tt);
+    claim = inl (first (λ l o. removedRow l ≡ noRowRemoved) refl refl refl);
+  }
     where
       head : TableAt (suc s) 0 .succ .mark ≡ false
       head = structure-at ready (suc s) .head .unmarked
@@ -118,13 +120,20 @@ module _ {top : ℕ} {start : Catalogue} {calls : List Call} (ready : Ready top 
 
   busy-further : (s w u : ℕ) → BusySince start calls s w u → idle (lineAt start calls (suc u) w) ≡ false → BusySince start calls s w (suc u)
   busy-further s w u busy now j low high = elim (ℕ-discrete j (suc u)) [
-      yes e ↦ rw e now
-    | no e ↦ busy j low (omega arith) ]
+    | yes e ↦ rw e now
+    | no e ↦ busy j low (omega arith)
+  ]
 
   claim-further : {s w u y : ℕ} → Claimed s w u y → removedAt (suc u) w ≡ y → Claimed s w (suc u) y
   claim-further {u = u} c now = record {
-      at = c .at; prev = c .prev; later = c .later; before = omega (arith, c .before); step = c .step; flag = c .flag;
-      removes = λ j low high. elim (ℕ-discrete j (suc u)) [ yes e ↦ rw e now | no e ↦ c .removes j low (omega arith) ] }
+    at = c .at;
+    prev = c .prev;
+    later = c .later;
+    before = omega (arith, c .before);
+    step = c .step;
+    flag = c .flag;
+    removes = λ j low high. elim (ℕ-discrete j (suc u)) [ yes e ↦ rw e now | no e ↦ c .removes j low (omega arith) ];
+  }
 
   module _ (s w code key element u : ℕ) (r : Running s w code key element u) where
     -- another worker's call, or none
@@ -137,8 +146,10 @@ module _ {top : ℕ} {start : Catalogue} {calls : List Call} (ready : Ready top 
           operation-is = rw same (r .operation-is);
           past = rw same (past-still TableAt (suc s) u (lineAt start calls u w) (r .past));
           claim = elim (r .claim) [
-            inl none ↦ inl (rw same none)
-          | inr c ↦ inr (rw same (claim-further c (rw same refl))) ] })
+            | inl none ↦ inl (rw same none)
+            | inr c ↦ inr (rw same (claim-further c (rw same refl)))
+          ];
+        })
         (inr (ap removedRow same))
 
     pub step-tells : idle (lineAt start calls u w) ≡ false
@@ -158,29 +169,30 @@ module _ {top : ℕ} {start : Catalogue} {calls : List Call} (ready : Ready top 
           now = ap removedRow next-line
 
           go : Removal (TableAt u) (rowAt (written (stateAt start calls u .rows) (effectIn (stateAt start calls u) w .write))) (removedAt u w)
-                (removedRow (effectIn (stateAt start calls u) w .line))
+              (removedRow (effectIn (stateAt start calls u) w .line))
               → (removedAt u w ≡ noRowRemoved) ⊎ Claimed s w u (removedAt u w)
               → (removedRow (effectIn (stateAt start calls u) w .line) ≡ noRowRemoved)
-                ⊎ Claimed s w (suc u) (removedRow (effectIn (stateAt start calls u) w .line))
+              ⊎ Claimed s w (suc u) (removedRow (effectIn (stateAt start calls u) w .line))
           go (goes-on same no-new) (inl none) = inl (same ∙ none)
           go (goes-on same no-new) (inr c) =
               inr (subst (Claimed s w (suc u)) (sym same) (claim-further c (now ∙ same)))
           go (ends none no-new gone) c = inl none
           go (claims {prev = prev} flag none) c = inr (record {
-              at = u;
-              prev = prev;
-              later = r .since;
-              before = omega arith;
-              step = accepts;
-              flag = subst (λ (rows : List Row). FlagMove (TableAt u) (rowAt rows) prev (removedRow (effectIn (stateAt start calls u) w .line)))
+            at = u;
+            prev = prev;
+            later = r .since;
+            before = omega arith;
+            step = accepts;
+            flag = subst (λ (rows : List Row). FlagMove (TableAt u) (rowAt rows) prev (removedRow (effectIn (stateAt start calls u) w .line)))
                 (sym (taken .rows-written)) flag;
-              removes = λ j low high.
+            removes = λ j low high.
                 let e : j ≡ suc u = omega arith in
-                rw e now })
+                rw e now;
+          })
 
       goes : (l : Line) → idle l ≡ false → lineAt start calls (suc u) w ≡ l
           → GoesOn w TableAt (suc s) u (rowAt (written (stateAt start calls u .rows) (effectIn (stateAt start calls u) w .write))) (removedAt u w)
-              (operationOf (lineAt start calls u w)) l
+          (operationOf (lineAt start calls u w)) l
           → Continues s w code key element u
       goes l busy is g = runs
           (record {
@@ -189,7 +201,8 @@ module _ {top : ℕ} {start : Catalogue} {calls : List Call} (ready : Ready top 
             busy = busy-further s w u (r .busy) (rw is busy);
             operation-is = rw is (g .operation-same ∙ r .operation-is);
             past = rw is (past-still TableAt (suc s) u l (g .past));
-            claim = claim-after })
+            claim = claim-after;
+          })
           (elim (g .removed-same) [ inl none ↦ inl none | inr same ↦ inr (ap removedRow is ∙ same) ])
 
       stepped-on : Continues s w code key element u
@@ -197,12 +210,13 @@ module _ {top : ℕ} {start : Catalogue} {calls : List Call} (ready : Ready top 
         where
           go : (l : Line) → lineAt start calls (suc u) w ≡ l
               → NextLine w TableAt (suc s) u (rowAt (written (stateAt start calls u .rows) (effectIn (stateAt start calls u) w .write))) (removedAt u w)
-                  (operationOf (lineAt start calls u w)) l
+              (operationOf (lineAt start calls u w)) l
               → Continues s w code key element u
           go (Idle a) is answered = ends-now a (record {
-              running = r;
-              finished = record { later = r .since; step = accepts; busy = r .busy; answered = is };
-              answered = rw (taken .rows-written) (rw (r .operation-is) at answered) })
+            running = r;
+            finished = record { later = r .since; step = accepts; busy = r .busy; answered = is };
+            answered = rw (taken .rows-written) (rw (r .operation-is) at answered);
+          })
           go (Search l f) is g = goes (Search l f) refl is g
           go (Insert l f) is g = goes (Insert l f) refl is g
           go (Flag l f) is g = goes (Flag l f) refl is g
@@ -217,9 +231,11 @@ module _ {top : ℕ} {start : Catalogue} {calls : List Call} (ready : Ready top 
         go : Happening start calls u → Continues s w code key element u
         go (nothing-happens e) = unchanged (ap (λ (c : Catalogue). workerAt (c .workers) w .line) e)
         go (submits v code' key' element' a taken) = elim (ℕ-discrete w v) [
-            yes e ↦ absurd (clash (ap (λ (x : ℕ). idle (lineAt start calls u x)) e ∙ taken .was-idle) still-busy)
-          | no e ↦ unchanged (ap (λ (k : Worker). k .line) (taken .worker .others w e)) ]
+          | yes e ↦ absurd (clash (ap (λ (x : ℕ). idle (lineAt start calls u x)) e ∙ taken .was-idle) still-busy)
+          | no e ↦ unchanged (ap (λ (k : Worker). k .line) (taken .worker .others w e))
+        ]
         go (steps v a taken) = elim (ℕ-discrete w v) [
-            yes e ↦ stepped-on (subst (λ (x : ℕ). Accepts start calls u (Step x)) (sym e) a)
+          | yes e ↦ stepped-on (subst (λ (x : ℕ). Accepts start calls u (Step x)) (sym e) a)
               (subst (StepTaken (stateAt start calls u) (stateAt start calls (suc u))) (sym e) taken)
-          | no e ↦ unchanged (ap (λ (k : Worker). k .line) (taken .worker .others w e)) ]
+          | no e ↦ unchanged (ap (λ (k : Worker). k .line) (taken .worker .others w e))
+        ]

@@ -45,11 +45,12 @@ module _ (top : ℕ) (rowsAt : ℕ → List Row) (who : ℕ → ℕ) (sound : (i
       if-known (Tells me rowsAt t u (search k) 0) (hasKey (rowsAt u) curr k)
       (λ same. record { next = had-key top rowsAt who sound move t u since me k curr next fits was same; linking = inl tt })
       (λ other.
-        let differ : rankOf top (rowAt (rowsAt u)) curr ≢ suc k = has-key top (rowsAt u) curr k fits .if-false other in
-        record {
-          next = lacks-within (λ (i : ℕ). rowAt (rowsAt i)) who sound move t u curr next k was
+      let differ : rankOf top (rowAt (rowsAt u)) curr ≢ suc k = has-key top (rowsAt u) curr k fits .if-false other in
+      record {
+        next = lacks-within (λ (i : ℕ). rowAt (rowsAt i)) who sound move t u curr next k was
             (low-not-tail top (rowsAt u) curr (suc k) k fits (omega arith) low) (omega (arith, low .low)) (high .high);
-          linking = inl tt })
+        linking = inl tt;
+      })
 
   -- Line 10.
   returns-tell : (k e curr next : ℕ) (caller : SearchCaller) → suc k < top → markOf (rowAt (rowsAt t)) curr ≡ false
@@ -108,9 +109,10 @@ module _ (top : ℕ) (rowsAt : ℕ → List Row) (who : ℕ → ℕ) (sound : (i
 
     right-below : Below top (rowAt (rowsAt u)) (f .curr) (rightOf (rowAt (rowsAt u)) (f .curr))
     right-below = record {
-        linked = common .1 .1 .0 .linked;
-        next-linked = sound u .right-linked (f .curr) (common .1 .1 .0 .linked) not-tail;
-        lower = sound u .right-above (f .curr) (common .1 .1 .0 .linked) not-tail }
+      linked = common .1 .1 .0 .linked;
+      next-linked = sound u .right-linked (f .curr) (common .1 .1 .0 .linked) not-tail;
+      lower = sound u .right-above (f .curr) (common .1 .1 .0 .linked) not-tail;
+    }
 
     -- what is read of curr now was its right neighbour when it was regular
     right-was : RegularWithin (λ (i : ℕ). rowAt (rowsAt i)) t u (f .curr) (rightOf (rowAt (rowsAt u)) (f .curr))
@@ -131,8 +133,8 @@ module _ (top : ℕ) (rowsAt : ℕ → List Row) (who : ℕ → ℕ) (sound : (i
     search-line-tells (SearchFrom3CurrRight next) (fits, (alone, (low, (before, (marked, (curr-marked, rest)))))) was =
         if-known TellsSearch (eqb (succAt (rowsAt u) (f .curr) .right) next)
         (λ same. searchFrom-7-tells next was before
-          (rw (eqb-true (rightOf (rowAt (rowsAt u)) (f .curr)) next same) at
-            (marked-within (λ (i : ℕ). rowAt (rowsAt i)) who sound move t u (f .curr) since unmarked curr-marked .right-unmarked)))
+        (rw (eqb-true (rightOf (rowAt (rowsAt u)) (f .curr)) next same) at
+        (marked-within (λ (i : ℕ). rowAt (rowsAt i)) who sound move t u (f .curr) since unmarked curr-marked .right-unmarked)))
         (λ _. record { next = record { operation-same = refl; past = (unmarked, was, past); removed-same = inl refl }; linking = inl tt })
     search-line-tells (SearchFrom4 next) known was =
         if-both TellsSearch (eqb (succAt (rowsAt u) (f .curr) .right) next)
@@ -141,8 +143,9 @@ module _ (top : ℕ) (rowsAt : ℕ → List Row) (who : ℕ → ℕ) (sound : (i
     search-line-tells (SearchFrom5HelpMarked1 next) known was =
         record { next = record { operation-same = refl; past = (unmarked, tt, past); removed-same = inl refl }; linking = inl tt }
     search-line-tells (SearchFrom5HelpMarked2 next right) known was = record {
-        next = record { operation-same = refl; past = (unmarked, tt, past); removed-same = inl refl };
-        linking = inl (cas-links-none (rowsAt u) (f .curr) _ _) }
+      next = record { operation-same = refl; past = (unmarked, tt, past); removed-same = inl refl };
+      linking = inl (cas-links-none (rowsAt u) (f .curr) _ _);
+    }
     search-line-tells SearchFrom6 known was =
         record { next = record { operation-same = refl; past = (unmarked, right-was, past); removed-same = inl refl }; linking = inl tt }
     search-line-tells SearchFrom9 known was = searchFrom-2-tells _ right-was right-below

@@ -83,7 +83,7 @@ module _ (top me : ℕ) (rows : List Row) (sound : Structure top (rowAt rows)) (
         if-known LawfulSearch (reaches rows f next)
         (λ _. read top me rows _ 0 hs _ refl refl (fits, (alone, (low, (before, rest)))))
         (λ past. searchFrom-10-lawful next (fits, (alone, (low, rest)))
-          (record { linked = before .next-linked; high = reaches-rank top rows f next fits .if-false past }))
+        (record { linked = before .next-linked; high = reaches-rank top rows f next fits .if-false past }))
 
     -- Lines 7 and 8.
     pub searchFrom-7-lawful : (next : ℕ) → Common → Below top (rowAt rows) (f .curr) next → LawfulSearch (searchFrom-7 rows f next)
@@ -91,20 +91,26 @@ module _ (top me : ℕ) (rows : List Row) (sound : Structure top (rowAt rows)) (
     searchFrom-7-lawful next (fits, (alone, (low, rest))) before =
         if-known LawfulSearch (reaches rows f next)
         (λ reached. read top me rows _ 0 hs _ refl refl
-          (fits, (alone, (record { linked = before .next-linked; low = reaches-rank top rows f next fits .if-true reached }, rest))))
+        (fits, (alone, (record { linked = before .next-linked; low = reaches-rank top rows f next fits .if-true reached }, rest))))
         (λ past. searchFrom-10-lawful next (fits, (alone, (low, rest)))
-          (record { linked = before .next-linked; high = reaches-rank top rows f next fits .if-false past }))
+        (record { linked = before .next-linked; high = reaches-rank top rows f next fits .if-false past }))
 
     -- the right neighbour of curr, which is not the tail
     right-below : suc (f .key) < top → AtMost top (rowAt rows) (f .curr) (reach (f .caller) (f .key))
         → Below top (rowAt rows) (f .curr) (rightOf (rowAt rows) (f .curr))
     right-below fits low =
-        let not-tail : f .curr ≢ 1 = λ e. omega (arith, low .low, reach-fits (f .caller) (f .key), ap (rankOf top (rowAt rows)) e,
-              tail-rank top (rowAt rows)) in
+        let not-tail : f .curr ≢ 1 = λ e. omega (
+          arith,
+          low .low,
+          reach-fits (f .caller) (f .key),
+          ap (rankOf top (rowAt rows)) e,
+          tail-rank top (rowAt rows),
+        ) in
         record {
           linked = low .linked;
           next-linked = sound .right-linked (f .curr) (low .linked) not-tail;
-          lower = sound .right-above (f .curr) (low .linked) not-tail }
+          lower = sound .right-above (f .curr) (low .linked) not-tail;
+        }
 
     -- Lines 1 and 9.
     pub searchFrom-1-lawful : Common → LawfulSearch (searchFrom-1 rows f)

@@ -45,9 +45,10 @@ none-held (suc (suc x)) w h =
 
 pub empty-sound : (top : ℕ) → 1 ≤ top → Sound top emptyCatalogue
 empty-sound top positive = record {
-    structure = empty-structure top positive;
-    known = λ w. subst (λ (k : Worker). AllHold top w emptyTable (facts (k .line) (stackOf k))) (sym (all-fresh w)) tt;
-    named = λ w x h. absurd (none-held x w h);
-    row-count = refl;
-    worker-count = refl;
-    slot-count = λ w. ap (λ (k : Worker). length (k .helps)) (all-fresh w) }
+  structure = empty-structure top positive;
+  known = λ w. subst (λ (k : Worker). AllHold top w emptyTable (facts (k .line) (stackOf k))) (sym (all-fresh w)) tt;
+  named = λ w x h. absurd (none-held x w h);
+  row-count = refl;
+  worker-count = refl;
+  slot-count = λ w. ap (λ (k : Worker). length (k .helps)) (all-fresh w);
+}

@@ -1,35 +1,35 @@
--- Every call keeps a sound state sound, whatever its numbers, as long as a submitted key fits under the tail's rank; so every state that
--- is reached from the empty catalogue is sound.
+-- Every call keeps a sound state sound, whatever its numbers, as long as a submitted key fits under the tail's rank; and so does a run of
+-- calls, for a rank of the tail above all of their keys.
 use Prim.Native.Nat.{ℕ, suc, _+_, _≤_, _<_, max}
-use mathlib.Core.Bool.{Bool, true, false}
+use mathlib.Core.Bool.{true, false}
 use mathlib.Core.Path.{_≡_, refl, ap, sym, _∙_, subst}
 use mathlib.Core.Logic.{_≢_, _⊎_, inl, inr}
 use mathlib.Core.List.{List, [], _∷_}
 use native.Mathlib.Omega.{arith}
-use native.Mathlib.Decide.{ℕ-discrete}
 use lib.Dec.{eqb}
 use lib.ListN.{length, set, length-set}
 use Rattle.order.specs.Basics.{clash, held-linked}
-use Rattle.order.specs.Table.{Table, standingOf, rankOf}
+use Rattle.order.specs.Table.{Table, standingOf}
 use Rattle.order.specs.Structure.{Structure}
 use Rattle.order.specs.StructureFacts.{head-rank}
 use Rattle.order.specs.Moves.{Move, nothing, links, marks, unlinks, flags, backlinks, private}
 use Rattle.order.specs.Kept.{move-keeps-structure}
-use Rattle.order.specs.Stack.{newestFirst, stackOf, stackAfter, stacked-stack, stacked-slots, stacked-line}
+use Rattle.order.specs.Stack.{newestFirst, stackOf, stackAfter, stacked-stack, stacked-slots}
 use Rattle.order.specs.Facts.{AtMost, AllHold, facts}
 use Rattle.order.specs.StableFacts.{others-leave-held, facts-survive}
 use Rattle.order.specs.Writes.{held-inside}
 use Rattle.order.specs.Lawful.{Lawful, removedRow}
 use Rattle.order.specs.EveryLine.{effect-lawful}
-use Rattle.order.specs.Events.{Event, refused, submitted, stepped, Submitted, StepTaken, WorkerPut, each-worker, effectIn, submittedWorker, call-event}
-use Rattle.order.specs.Sound.{Sound, empty-sound}
-use Rattle.model.specs.State.{rowAt, workerAt, idle, emptyCatalogue}
+use Rattle.order.specs.Events.{Event, refused, submitted, stepped, Submitted, StepTaken, each-worker, effectIn, submittedWorker, call-event}
+use Rattle.order.specs.Sound.{Sound}
+use Rattle.model.specs.State.{rowAt, workerAt, idle}
 use Rattle.model.specs.Choices.{if-both, if-known}
 use Rattle.model.specs.WellFormed.{heldRow, noRowHeld}
-use Rattle.model.specs.Step.{written, stacked, workerAfter, ninthHelp, effectOf, firstLine}
+use Rattle.model.specs.Step.{written, workerAfter, ninthHelp, firstLine}
+use Rattle.model.specs.Answers.{stacked-line, line-after}
 use Rattle.model.specs.Run.{call, run}
 use Rattle.model.specs.declared.Row.{Row}
-use Rattle.model.specs.declared.Standing.the-variants.{Free, Held, Linked}
+use Rattle.model.specs.declared.Standing.the-variants.{Free, Held}
 use Rattle.model.specs.declared.Worker.{Worker}
 use Rattle.model.specs.declared.Catalogue.{Catalogue}
 use Rattle.model.specs.declared.Pending.{Pending}
@@ -60,10 +60,6 @@ idle-holds-nothing (Flag l f) h = absurd (clash h refl)
 idle-holds-nothing (Help l f) h = absurd (clash h refl)
 
 module _ (k : Worker) (e : Effect) where
-  pub line-after : workerAfter k e .line ≡ e .line
-  unfolding workerAfter
-  line-after = if-both (λ (x : Worker). x .line ≡ e .line) (idle (e .line)) refl (stacked-line k (e .line) (e .stack))
-
   slots-after : length (k .helps) ≡ 8 → length (workerAfter k e .helps) ≡ 8
   unfolding workerAfter
   slots-after size = if-both (λ (x : Worker). length (x .helps) ≡ 8) (idle (e .line)) refl (stacked-slots k (e .line) (e .stack) ∙ size)
@@ -113,19 +109,25 @@ held-before {u = u} {v = v} {R' = R'} differ (private {new = new} m) x h = ap (�
 module _ (top : ℕ) (c c' : Catalogue) (sound : Sound top c) where
   submit-keeps-sound : (w code key element : ℕ) → suc key < top → Submitted c c' w code key element → Sound top c'
   submit-keeps-sound w code key element fits s = record {
-      structure = same-rows (λ rows. Structure top (rowAt rows)) (sound .structure);
-      known = each-worker (s .worker) (λ v k. AllHold top v (rowAt (c' .rows)) (facts (k .line) (stackOf k)))
+    structure = same-rows (λ rows. Structure top (rowAt rows)) (sound .structure);
+    known = each-worker (s .worker) (λ v k. AllHold top v (rowAt (c' .rows)) (facts (k .line) (stackOf k)))
         (same-rows (λ rows. AllHold top w (rowAt rows) (facts (firstLine code key element) (stackOf (submittedWorker code key element))))
-          (first-known top w (rowAt (c .rows)) code key element (sound .structure) fits))
+        (first-known top w (rowAt (c .rows)) code key element (sound .structure) fits))
         (λ v e. same-rows (λ rows. AllHold top v (rowAt rows) (facts (workerAt (c .workers) v .line) (stackOf (workerAt (c .workers) v)))) (sound .known v));
-      named = same-rows (λ rows. (v x : ℕ) → standingOf (rowAt rows) x ≡ Held v → heldRow (workerAt (c' .workers) v .line) ≡ x)
+    named = same-rows (λ rows. (v x : ℕ) → standingOf (rowAt rows) x ≡ Held v → heldRow (workerAt (c' .workers) v .line) ≡ x)
         (each-worker (s .worker) (λ v k. (x : ℕ) → standingOf (rowAt (c .rows)) x ≡ Held v → heldRow (k .line) ≡ x)
-          (λ x h. absurd (omega (arith, sound .named w x h, idle-holds-nothing (workerAt (c .workers) w .line) (s .was-idle),
-            held-inside (c .rows) x w h, sound .row-count)))
-          (λ v e. sound .named v));
-      row-count = ap length (s .rows-same) ∙ sound .row-count;
-      worker-count = s .worker .size ∙ sound .worker-count;
-      slot-count = each-worker (s .worker) (λ v k. length (k .helps) ≡ 8) refl (λ v e. sound .slot-count v) }
+        (λ x h. absurd (omega (
+          arith,
+          sound .named w x h,
+          idle-holds-nothing (workerAt (c .workers) w .line) (s .was-idle),
+          held-inside (c .rows) x w h,
+          sound .row-count,
+        )))
+        (λ v e. sound .named v));
+    row-count = ap length (s .rows-same) ∙ sound .row-count;
+    worker-count = s .worker .size ∙ sound .worker-count;
+    slot-count = each-worker (s .worker) (λ v k. length (k .helps) ≡ 8) refl (λ v e. sound .slot-count v);
+  }
     where
       same-rows : (P : List Row → Type 0) → P (c .rows) → P (c' .rows)
       same-rows P h = subst P (sym (s .rows-same)) h
@@ -137,19 +139,20 @@ module _ (top : ℕ) (c c' : Catalogue) (sound : Sound top c) where
 
   step-keeps-sound : (w : ℕ) → StepTaken c c' w → Sound top c'
   step-keeps-sound w s = record {
-      structure = rows-after (λ rows. Structure top (rowAt rows)) (move-keeps-structure (sound .structure) (l .move));
-      known = rows-after (λ rows. (v : ℕ) → AllHold top v (rowAt rows) (facts (workerAt (c' .workers) v .line) (stackOf (workerAt (c' .workers) v))))
+    structure = rows-after (λ rows. Structure top (rowAt rows)) (move-keeps-structure (sound .structure) (l .move));
+    known = rows-after (λ rows. (v : ℕ) → AllHold top v (rowAt rows) (facts (workerAt (c' .workers) v .line) (stackOf (workerAt (c' .workers) v))))
         (each-worker (s .worker) (λ v k. AllHold top v (rowAt after) (facts (k .line) (stackOf k)))
-          (known-after k e top w (rowAt after) (s .few-helps) (sound .slot-count w) (l .known))
-          (λ v differ. facts-survive top v (sound .structure) (l .move) (others-leave-held (sound .structure) (λ q. differ (sym q)) (l .move))
-            (facts (workerAt (c .workers) v .line) (stackOf (workerAt (c .workers) v))) (sound .known v)));
-      named = rows-after (λ rows. (v x : ℕ) → standingOf (rowAt rows) x ≡ Held v → heldRow (workerAt (c' .workers) v .line) ≡ x)
+        (known-after k e top w (rowAt after) (s .few-helps) (sound .slot-count w) (l .known))
+        (λ v differ. facts-survive top v (sound .structure) (l .move) (others-leave-held (sound .structure) (λ q. differ (sym q)) (l .move))
+        (facts (workerAt (c .workers) v .line) (stackOf (workerAt (c .workers) v))) (sound .known v)));
+    named = rows-after (λ rows. (v x : ℕ) → standingOf (rowAt rows) x ≡ Held v → heldRow (workerAt (c' .workers) v .line) ≡ x)
         (each-worker (s .worker) (λ v k. (x : ℕ) → standingOf (rowAt after) x ≡ Held v → heldRow (k .line) ≡ x)
-          (λ x h. ap heldRow (line-after k e) ∙ l .named x (sound .named w x) h)
-          (λ v differ x h. sound .named v x (held-before (λ q. differ (sym q)) (l .move) x h)));
-      row-count = ap length (s .rows-written) ∙ length-written (c .rows) (e .write) ∙ sound .row-count;
-      worker-count = s .worker .size ∙ sound .worker-count;
-      slot-count = each-worker (s .worker) (λ v k. length (k .helps) ≡ 8) (slots-after k e (sound .slot-count w)) (λ v differ. sound .slot-count v) }
+        (λ x h. ap heldRow (line-after k e) ∙ l .named x (sound .named w x) h)
+        (λ v differ x h. sound .named v x (held-before (λ q. differ (sym q)) (l .move) x h)));
+    row-count = ap length (s .rows-written) ∙ length-written (c .rows) (e .write) ∙ sound .row-count;
+    worker-count = s .worker .size ∙ sound .worker-count;
+    slot-count = each-worker (s .worker) (λ v k. length (k .helps) ≡ 8) (slots-after k e (sound .slot-count w)) (λ v differ. sound .slot-count v);
+  }
     where
       k : Worker
       k = workerAt (c .workers) w
@@ -208,8 +211,3 @@ unfolding topOver
 top-positive [] = omega arith
 top-positive (Submit w code key element ∷ xs) = omega (arith, top-positive xs)
 top-positive (Step w ∷ xs) = top-positive xs
-
--- every reached state is sound
-pub reached : (calls : List Call) → Sound (topOver calls) (run emptyCatalogue calls)
-reached calls =
-    run-keeps-sound (topOver calls) emptyCatalogue calls (empty-sound (topOver calls) (top-positive calls)) (keys-fit (topOver calls) calls (omega arith))

@@ -113,8 +113,9 @@ helping-survives {top = top} {R = R} {R' = R'} sound move prev del h = record { 
     go (flags m) = m .back= del ∙ h .back-is
     go (private m) = cc (linked-unchanged sound m del (help-del-linked sound prev del (h .help)), h .back-is)
     go (backlinks {prev = other} {del = row} m) = elim (ℕ-discrete del row) [
-        yes e ↦ cc (m .back-del, help-unique sound prev other del (h .help) (subst (Helpable R other) (sym e) (m .help)))
-      | no e ↦ m .back-other del e ∙ h .back-is ]
+      | yes e ↦ cc (m .back-del, help-unique sound prev other del (h .help) (subst (Helpable R other) (sym e) (m .help)))
+      | no e ↦ m .back-other del e ∙ h .back-is
+    ]
 
 -- ---- Every fact ----
 
@@ -140,9 +141,10 @@ module _ (top w : ℕ) {u : ℕ} {R R' : Table} (sound : Structure top R) (m : M
   fact-survives (at-most x bound) h = at-most-survives sound m x bound h
   fact-survives (above x bound) h = above-survives sound m x bound h
   fact-survives (below x y) h = record {
-      linked = grow sound m x (h .linked) .linked;
-      next-linked = grow sound m y (h .next-linked) .linked;
-      lower = omega (arith, grow-rank sound m x (h .linked), grow-rank sound m y (h .next-linked)) }
+    linked = grow sound m x (h .linked) .linked;
+    next-linked = grow sound m y (h .next-linked) .linked;
+    lower = omega (arith, grow-rank sound m x (h .linked), grow-rank sound m y (h .next-linked));
+  }
   fact-survives (save-of x key) h = save-survives sound m x key h
   fact-survives (marked x) h = grow sound m x (sound .mark-linked x h) .mark h
   fact-survives (frozen x right) h =
@@ -153,8 +155,13 @@ module _ (top w : ℕ) {u : ℕ} {R R' : Table} (sound : Structure top R) (m : M
   fact-survives (holding new key element) h =
       let same = leaves new (h .held) in
       record {
-        held = cc (h .held); has-key = cc (h .has-key); has-element = cc (h .has-element); back-zero = cc (h .back-zero);
-        unmarked = cc (h .unmarked); unflagged = cc (h .unflagged) }
+        held = cc (h .held);
+        has-key = cc (h .has-key);
+        has-element = cc (h .has-element);
+        back-zero = cc (h .back-zero);
+        unmarked = cc (h .unmarked);
+        unflagged = cc (h .unflagged);
+      }
 
   pub facts-survive : (fs : List Fact) → AllHold top w R fs → AllHold top w R' fs
   facts-survive [] hs = tt

@@ -1,7 +1,7 @@
 -- The pending helps of a worker as a list, the newest first, and what a push, a pop and a finish do to it.
 use Prim.Native.Nat.{ℕ, zero, suc, _+_, _-_, _≤_, _<_}
-use mathlib.Core.Bool.{true, false}
-use mathlib.Core.Path.{_≡_, refl, ap, sym, _∙_}
+use mathlib.Core.Bool.{false}
+use mathlib.Core.Path.{_≡_, refl, ap, sym}
 use mathlib.Core.Logic.{_≢_}
 use mathlib.Core.List.{List, [], _∷_}
 use native.Mathlib.Omega.{arith}
@@ -9,12 +9,10 @@ use native.Mathlib.Numerals.{add-one}
 use lib.ListN.{length, set, length-set}
 use lib.Seq.{getD-set-same, getD-set-other}
 use borrow.Author.Tests.{leb-false}
-use Rattle.model.specs.State.{helpAt, noHelp, noHelps, idle}
-use Rattle.model.specs.Choices.{if-known}
-use Rattle.model.specs.Step.{stacked, workerAfter, ninthHelp}
+use Rattle.model.specs.State.{helpAt, noHelp}
+use Rattle.model.specs.Step.{stacked, ninthHelp}
 use Rattle.model.specs.declared.Pending.{Pending}
 use Rattle.model.specs.declared.Worker.{Worker}
-use Rattle.model.specs.declared.Effect.{Effect}
 use Rattle.model.specs.declared.Line.{Line}
 use Rattle.model.specs.declared.Stack.{Stack}
 use Rattle.model.specs.declared.Stack.the-variants.{Keep, Push, Pop}
@@ -78,12 +76,6 @@ module _ (k : Worker) (line : Line) where
   stacked-slots Keep = refl
   stacked-slots (Push h) = length-set (k .helps) (k .count) h
   stacked-slots Pop = length-set (k .helps) (k .count - 1) noHelp
-
-  pub stacked-line : (s : Stack) → stacked k line s .line ≡ line
-  unfolding stacked
-  stacked-line Keep = refl
-  stacked-line (Push h) = refl
-  stacked-line Pop = refl
 
 -- what a line that returns from a help finds: nothing is pending, or the newest help
 pub data Newest (count : ℕ) (last : Pending) (hs : List Pending) : Type 0 where

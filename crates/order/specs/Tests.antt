@@ -54,10 +54,10 @@ module _ (top : ℕ) (rows : List Row) (i k : ℕ) where
       if-known (Decides _ _) (eqb i 1)
       (λ e. says-no (omega (arith, tail-rank (eqb-true i 1 e))))
       (λ h. if-known (Decides _ _) (eqb i 0)
-        (λ e. says-yes (omega (arith, head-rank (eqb-true i 0 e))))
-        (λ g.
-          let r = save (eqb-false i 1 h) (eqb-false i 0 g) in
-          record { if-true = λ t. omega (arith, r, leb-true (rowAt rows i .key) k t); if-false = λ t. omega (arith, r, leb-false (rowAt rows i .key) k t) }))
+      (λ e. says-yes (omega (arith, head-rank (eqb-true i 0 e))))
+      (λ g.
+      let r = save (eqb-false i 1 h) (eqb-false i 0 g) in
+      record { if-true = λ t. omega (arith, r, leb-true (rowAt rows i .key) k t); if-false = λ t. omega (arith, r, leb-false (rowAt rows i .key) k t) }))
 
   pub key-below : suc k < top → Decides (rankOf top (rowAt rows) i ≤ k) (k < rankOf top (rowAt rows) i) (keyBelow rows i k)
   unfolding keyBelow rank-of
@@ -65,10 +65,10 @@ module _ (top : ℕ) (rows : List Row) (i k : ℕ) where
       if-known (Decides _ _) (eqb i 1)
       (λ e. says-no (omega (arith, tail-rank (eqb-true i 1 e))))
       (λ h. if-known (Decides _ _) (eqb i 0)
-        (λ e. says-yes (omega (arith, head-rank (eqb-true i 0 e))))
-        (λ g.
-          let r = save (eqb-false i 1 h) (eqb-false i 0 g) in
-          record { if-true = λ t. omega (arith, r, ltb-true (rowAt rows i .key) k t); if-false = λ t. omega (arith, r, ltb-false (rowAt rows i .key) k t) }))
+      (λ e. says-yes (omega (arith, head-rank (eqb-true i 0 e))))
+      (λ g.
+      let r = save (eqb-false i 1 h) (eqb-false i 0 g) in
+      record { if-true = λ t. omega (arith, r, ltb-true (rowAt rows i .key) k t); if-false = λ t. omega (arith, r, ltb-false (rowAt rows i .key) k t) }))
 
   -- a row that has the key is a save
   pub record HasKey : Type 0 where
@@ -82,25 +82,26 @@ module _ (top : ℕ) (rows : List Row) (i k : ℕ) where
       if-known (Decides HasKey _) (eqb i 1)
       (λ e. says-no (λ q. omega (arith, tail-rank (eqb-true i 1 e), q)))
       (λ h. if-known (Decides HasKey _) (eqb i 0)
-        (λ e. says-no (λ q. omega (arith, head-rank (eqb-true i 0 e), q)))
-        (λ g.
-          let r = save (eqb-false i 1 h) (eqb-false i 0 g) in
-          let not-tail : i ≢ 1 = eqb-false i 1 h in
-          let not-head : i ≢ 0 = eqb-false i 0 g in
-          record {
-            if-true = λ t. record { no-end = omega arith; the-key = eqb-true _ _ t; the-rank = omega (arith, r, eqb-true (rowAt rows i .key) k t) };
-            if-false = λ t q. eqb-false (rowAt rows i .key) k t (omega (arith, r, q)) }))
+      (λ e. says-no (λ q. omega (arith, head-rank (eqb-true i 0 e), q)))
+      (λ g.
+      let r = save (eqb-false i 1 h) (eqb-false i 0 g) in
+      let not-tail : i ≢ 1 = eqb-false i 1 h in
+      let not-head : i ≢ 0 = eqb-false i 0 g in
+      record {
+        if-true = λ t. record { no-end = omega arith; the-key = eqb-true _ _ t; the-rank = omega (arith, r, eqb-true (rowAt rows i .key) k t) };
+        if-false = λ t q. eqb-false (rowAt rows i .key) k t (omega (arith, r, q));
+      }))
 
 -- the test of SearchFrom's lines 2 and 7
 pub reaches-rank : (top : ℕ) (rows : List Row) (f : SearchFrame) (next : ℕ) → suc (f .key) < top
     → Decides (rankOf top (rowAt rows) next ≤ reach (f .caller) (f .key)) (reach (f .caller) (f .key) < rankOf top (rowAt rows) next)
-        (reaches rows f next)
+    (reaches rows f next)
 unfolding reaches
 reaches-rank top rows f next fits = by-form (strict (f .caller)) refl
   where
     by-form : (b : Bool) → strict (f .caller) ≡ b
         → Decides (rankOf top (rowAt rows) next ≤ reach (f .caller) (f .key)) (reach (f .caller) (f .key) < rankOf top (rowAt rows) next)
-            (reaches rows f next)
+        (reaches rows f next)
     by-form true e = rw (e, reaches) (key-below top rows next (f .key) fits)
     by-form false e = rw (e, reaches) (key-at-most top rows next (f .key) fits)
 

@@ -140,9 +140,10 @@ module _ {top : ℕ} {start : Catalogue} {calls : List Call} (ready : Ready top 
 
       accepts : (y : Call) → i < length calls → x ≡ y → call (stateAt start calls i) x .verdict ≡ Accepted → Accepts start calls i y
       accepts y h is v = record {
-          inside = h;
-          made = any-default calls i y (Step 0) h ∙ is;
-          accepted = subst (λ (z : Call). call (stateAt start calls i) z .verdict ≡ Accepted) is v }
+        inside = h;
+        made = any-default calls i y (Step 0) h ∙ is;
+        accepted = subst (λ (z : Call). call (stateAt start calls i) z .verdict ≡ Accepted) is v;
+      }
 
       go : i < length calls → Event (stateAt start calls i) x (call (stateAt start calls i) x) → Happening start calls i
       go h (refused r v same) = nothing-happens (state-after start calls i x h (any-default calls i _ _ h) ∙ same)

@@ -36,10 +36,11 @@ pub record TwoWritten (R R' : Table) (i : ℕ) (r : Row) (j : ℕ) (s : Row) : T
 -- a row that is not free is one of the list: past the end stands a free row
 pub inside : (rows : List Row) (x : ℕ) → standingOf (rowAt rows) x ≢ Free → x < length rows
 inside rows x used = elim (decLt x (length rows)) [
-    yes h ↦ h
+  | yes h ↦ h
   | no h ↦
       let past : length rows ≤ x = omega arith in
-      absurd (used (ap (λ (r : Row). r .standing) (List·getD-eq-default rows freeRow past))) ]
+      absurd (used (ap (λ (r : Row). r .standing) (List·getD-eq-default rows freeRow past)))
+]
 
 pub linked-inside : (rows : List Row) (x : ℕ) → IsLinked (rowAt rows) x → x < length rows
 linked-inside rows x l = inside rows x (λ e. let z : _≡_ {A = ℕ} 0 1 = cc in omega arith)
@@ -55,16 +56,18 @@ pub two-written : (rows : List Row) (i : ℕ) (r : Row) (j : ℕ) (s : Row) → 
     → TwoWritten (rowAt rows) (rowAt (written rows (TwoRows i r j s))) i r j s
 unfolding written
 two-written rows i r j s h k differ = record {
-    first = getD-set-other (set rows i r) j i s freeRow differ ∙ getD-set-same rows i r freeRow h;
-    second = getD-set-same (set rows i r) j s freeRow (omega (arith, length-set rows i r));
-    other = λ x e f. getD-set-other (set rows i r) j x s freeRow f ∙ getD-set-other rows i x r freeRow e }
+  first = getD-set-other (set rows i r) j i s freeRow differ ∙ getD-set-same rows i r freeRow h;
+  second = getD-set-same (set rows i r) j s freeRow (omega (arith, length-set rows i r));
+  other = λ x e f. getD-set-other (set rows i r) j x s freeRow f ∙ getD-set-other rows i x r freeRow e;
+}
 
 module _ {R R' : Table} {i : ℕ} {r : Row} (put : OneWritten R R' i r) where
   -- a part of the row that is written as it was is everywhere as it was
   kept : {A : Type 0} (part : Row → A) → part r ≡ part (R i) → (x : ℕ) → part (R' x) ≡ part (R x)
   kept part e x = elim (ℕ-discrete x i) [
-      yes q ↦ ap (λ (y : ℕ). part (R' y)) q ∙ ap part (put .here) ∙ e ∙ ap (λ (y : ℕ). part (R y)) (sym q)
-    | no q ↦ ap part (put .other x q) ]
+    | yes q ↦ ap (λ (y : ℕ). part (R' y)) q ∙ ap part (put .here) ∙ e ∙ ap (λ (y : ℕ). part (R y)) (sym q)
+    | no q ↦ ap part (put .other x q)
+  ]
 
 module _ {R R' : Table} {i : ℕ} {r : Row} {j : ℕ} {s : Row} (put : TwoWritten R R' i r j s) where
   kept-both : {A : Type 0} (part : Row → A) → part r ≡ part (R i) → part s ≡ part (R j) → (x : ℕ) → part (R' x) ≡ part (R x)
@@ -79,37 +82,39 @@ module _ {R R' : Table} {i : ℕ} {r : Row} {j : ℕ} {s : Row} (put : TwoWritte
 pub unlink-written : {R R' : Table} {prev del right : ℕ} → R prev .succ ≡ succOf del false true → Frozen R del right
     → OneWritten R R' prev (withSucc (R prev) (succOf right false false)) → UnlinkMove R R' prev del right
 unlink-written found frozen put = record {
-    prev-flagged = ap (λ (s : Succ). s .flag) found;
-    prev-right = ap (λ (s : Succ). s .right) found;
-    del-marked = frozen .mark-set;
-    del-right = frozen .right-is;
-    key= = kept put (λ (r : Row). r .key) refl;
-    element= = kept put (λ (r : Row). r .element) refl;
-    mark= = kept put (λ (r : Row). r .succ .mark) (sym (ap (λ (s : Succ). s .mark) found));
-    back= = kept put (λ (r : Row). r .backlink) refl;
-    standing= = kept put (λ (r : Row). r .standing) refl;
-    flag-prev = ap (λ (r : Row). r .succ .flag) (put .here);
-    flag-other = λ x e. ap (λ (r : Row). r .succ .flag) (put .other x e);
-    right-next = ap (λ (r : Row). r .succ .right) (put .here);
-    right-other = λ x e. ap (λ (r : Row). r .succ .right) (put .other x e) }
+  prev-flagged = ap (λ (s : Succ). s .flag) found;
+  prev-right = ap (λ (s : Succ). s .right) found;
+  del-marked = frozen .mark-set;
+  del-right = frozen .right-is;
+  key= = kept put (λ (r : Row). r .key) refl;
+  element= = kept put (λ (r : Row). r .element) refl;
+  mark= = kept put (λ (r : Row). r .succ .mark) (sym (ap (λ (s : Succ). s .mark) found));
+  back= = kept put (λ (r : Row). r .backlink) refl;
+  standing= = kept put (λ (r : Row). r .standing) refl;
+  flag-prev = ap (λ (r : Row). r .succ .flag) (put .here);
+  flag-other = λ x e. ap (λ (r : Row). r .succ .flag) (put .other x e);
+  right-next = ap (λ (r : Row). r .succ .right) (put .here);
+  right-other = λ x e. ap (λ (r : Row). r .succ .right) (put .other x e);
+}
 
 -- TryFlag's line 4, C&S succeeded
 pub flag-written : {R R' : Table} {prev target : ℕ} → R prev .succ ≡ succOf target false false → IsLinked R prev → prev ≢ 1 → target ≢ 1
     → OneWritten R R' prev (withSucc (R prev) (succOf target false true)) → FlagMove R R' prev target
 flag-written found linked not-tail target-not-tail put = record {
-    prev-regular = record { linked = linked; unmarked = ap (λ (s : Succ). s .mark) found };
-    prev-not-tail = not-tail;
-    prev-unflagged = ap (λ (s : Succ). s .flag) found;
-    prev-right = ap (λ (s : Succ). s .right) found;
-    target-not-tail = target-not-tail;
-    key= = kept put (λ (r : Row). r .key) refl;
-    element= = kept put (λ (r : Row). r .element) refl;
-    mark= = kept put (λ (r : Row). r .succ .mark) (sym (ap (λ (s : Succ). s .mark) found));
-    right= = kept put (λ (r : Row). r .succ .right) (sym (ap (λ (s : Succ). s .right) found));
-    back= = kept put (λ (r : Row). r .backlink) refl;
-    standing= = kept put (λ (r : Row). r .standing) refl;
-    flag-prev = ap (λ (r : Row). r .succ .flag) (put .here);
-    flag-other = λ x e. ap (λ (r : Row). r .succ .flag) (put .other x e) }
+  prev-regular = record { linked = linked; unmarked = ap (λ (s : Succ). s .mark) found };
+  prev-not-tail = not-tail;
+  prev-unflagged = ap (λ (s : Succ). s .flag) found;
+  prev-right = ap (λ (s : Succ). s .right) found;
+  target-not-tail = target-not-tail;
+  key= = kept put (λ (r : Row). r .key) refl;
+  element= = kept put (λ (r : Row). r .element) refl;
+  mark= = kept put (λ (r : Row). r .succ .mark) (sym (ap (λ (s : Succ). s .mark) found));
+  right= = kept put (λ (r : Row). r .succ .right) (sym (ap (λ (s : Succ). s .right) found));
+  back= = kept put (λ (r : Row). r .backlink) refl;
+  standing= = kept put (λ (r : Row). r .standing) refl;
+  flag-prev = ap (λ (r : Row). r .succ .flag) (put .here);
+  flag-other = λ x e. ap (λ (r : Row). r .succ .flag) (put .other x e);
+}
 
 -- TryMark's line 3, C&S succeeded
 pub mark-written : {R R' : Table} {prev del right : ℕ} → R del .succ ≡ succOf right false false → Helping R prev del
@@ -119,44 +124,47 @@ mark-written {R} {R'} {prev} {del} found helping put = made (helping .help)
     made : Helpable R prev del → MarkMove R R' prev del
     made (already-marked h e) = absurd (clash h (ap (λ (s : Succ). s .mark) found))
     made (flagged-for h e) = record {
-        prev-flagged = h;
-        prev-right = e;
-        del-unflagged = ap (λ (s : Succ). s .flag) found;
-        del-unmarked = ap (λ (s : Succ). s .mark) found;
-        del-back = helping .back-is;
-        key= = kept put (λ (r : Row). r .key) refl;
-        element= = kept put (λ (r : Row). r .element) refl;
-        right= = kept put (λ (r : Row). r .succ .right) (sym (ap (λ (s : Succ). s .right) found));
-        flag= = kept put (λ (r : Row). r .succ .flag) (sym (ap (λ (s : Succ). s .flag) found));
-        back= = kept put (λ (r : Row). r .backlink) refl;
-        standing= = kept put (λ (r : Row). r .standing) refl;
-        mark-del = ap (λ (r : Row). r .succ .mark) (put .here);
-        mark-other = λ x e. ap (λ (r : Row). r .succ .mark) (put .other x e) }
+      prev-flagged = h;
+      prev-right = e;
+      del-unflagged = ap (λ (s : Succ). s .flag) found;
+      del-unmarked = ap (λ (s : Succ). s .mark) found;
+      del-back = helping .back-is;
+      key= = kept put (λ (r : Row). r .key) refl;
+      element= = kept put (λ (r : Row). r .element) refl;
+      right= = kept put (λ (r : Row). r .succ .right) (sym (ap (λ (s : Succ). s .right) found));
+      flag= = kept put (λ (r : Row). r .succ .flag) (sym (ap (λ (s : Succ). s .flag) found));
+      back= = kept put (λ (r : Row). r .backlink) refl;
+      standing= = kept put (λ (r : Row). r .standing) refl;
+      mark-del = ap (λ (r : Row). r .succ .mark) (put .here);
+      mark-other = λ x e. ap (λ (r : Row). r .succ .mark) (put .other x e);
+    }
 
 -- HelpFlagged's line 1
 pub backlink-written : {R R' : Table} {prev del : ℕ} → Helpable R prev del → OneWritten R R' del (withBacklink (R del) prev)
     → BacklinkMove R R' prev del
 backlink-written help put = record {
-    help = help;
-    key= = kept put (λ (r : Row). r .key) refl;
-    element= = kept put (λ (r : Row). r .element) refl;
-    mark= = kept put (λ (r : Row). r .succ .mark) refl;
-    right= = kept put (λ (r : Row). r .succ .right) refl;
-    flag= = kept put (λ (r : Row). r .succ .flag) refl;
-    standing= = kept put (λ (r : Row). r .standing) refl;
-    back-del = ap (λ (r : Row). r .backlink) (put .here);
-    back-other = λ x e. ap (λ (r : Row). r .backlink) (put .other x e) }
+  help = help;
+  key= = kept put (λ (r : Row). r .key) refl;
+  element= = kept put (λ (r : Row). r .element) refl;
+  mark= = kept put (λ (r : Row). r .succ .mark) refl;
+  right= = kept put (λ (r : Row). r .succ .right) refl;
+  flag= = kept put (λ (r : Row). r .succ .flag) refl;
+  standing= = kept put (λ (r : Row). r .standing) refl;
+  back-del = ap (λ (r : Row). r .backlink) (put .here);
+  back-other = λ x e. ap (λ (r : Row). r .backlink) (put .other x e);
+}
 
 -- Insert's lines 4, 10 and 20
 pub private-written : {w : ℕ} {R R' : Table} {new : ℕ} {r : Row} → (standingOf R new ≡ Free) ⊎ (standingOf R new ≡ Held w)
     → (r .standing ≡ Free) ⊎ (r .standing ≡ Held w) → r .succ .flag ≡ false → r .succ .mark ≡ false
     → OneWritten R R' new r → PrivateMove w R R' new
 private-written {w} before after unflagged unmarked put = record {
-    before = before;
-    after = subst (λ (s : Row). (s .standing ≡ Free) ⊎ (s .standing ≡ Held w)) (sym (put .here)) after;
-    unflagged = ap (λ (r : Row). r .succ .flag) (put .here) ∙ unflagged;
-    unmarked = ap (λ (r : Row). r .succ .mark) (put .here) ∙ unmarked;
-    other = put .other }
+  before = before;
+  after = subst (λ (s : Row). (s .standing ≡ Free) ⊎ (s .standing ≡ Held w)) (sym (put .here)) after;
+  unflagged = ap (λ (r : Row). r .succ .flag) (put .here) ∙ unflagged;
+  unmarked = ap (λ (r : Row). r .succ .mark) (put .here) ∙ unmarked;
+  other = put .other;
+}
 
 -- Insert's lines 10 and 11, C&S succeeded
 module _ (top : ℕ) {w : ℕ} {R R' : Table} {prev new next : ℕ} (found : R prev .succ ≡ succOf next false false)
@@ -166,25 +174,27 @@ module _ (top : ℕ) {w : ℕ} {R R' : Table} {prev new next : ℕ} (found : R p
     (put : TwoWritten R R' new (linkedRow (withSucc (R new) (succOf next false false))) prev (withSucc (R prev) (succOf new false false))) where
   pub link-written : LinkMove top w R R' prev new next
   link-written = record {
-      prev-regular = record { linked = linked; unmarked = ap (λ (s : Succ). s .mark) found };
-      prev-not-tail = not-tail;
-      prev-right = ap (λ (s : Succ). s .right) found;
-      prev-unflagged = ap (λ (s : Succ). s .flag) found;
-      new-held = held;
-      new-unmarked = unmarked;
-      new-unflagged = unflagged;
-      new-back = back;
-      below = below;
-      above = above;
-      key= = kept-both put (λ (r : Row). r .key) refl refl;
-      element= = kept-both put (λ (r : Row). r .element) refl refl;
-      mark= = kept-both put (λ (r : Row). r .succ .mark) (sym unmarked) (sym (ap (λ (s : Succ). s .mark) found));
-      flag= = kept-both put (λ (r : Row). r .succ .flag) (sym unflagged) (sym (ap (λ (s : Succ). s .flag) found));
-      back= = kept-both put (λ (r : Row). r .backlink) refl refl;
-      new-linked = ap (λ (r : Row). r .standing) (put .first);
-      standing-other = λ x e. elim (ℕ-discrete x prev) [
-          yes q ↦ ap (λ (y : ℕ). R' y .standing) q ∙ ap (λ (r : Row). r .standing) (put .second) ∙ ap (λ (y : ℕ). R y .standing) (sym q)
-        | no q ↦ ap (λ (r : Row). r .standing) (put .other x e q) ];
-      right-prev = ap (λ (r : Row). r .succ .right) (put .second);
-      right-new = ap (λ (r : Row). r .succ .right) (put .first);
-      right-other = λ x e f. ap (λ (r : Row). r .succ .right) (put .other x f e) }
+    prev-regular = record { linked = linked; unmarked = ap (λ (s : Succ). s .mark) found };
+    prev-not-tail = not-tail;
+    prev-right = ap (λ (s : Succ). s .right) found;
+    prev-unflagged = ap (λ (s : Succ). s .flag) found;
+    new-held = held;
+    new-unmarked = unmarked;
+    new-unflagged = unflagged;
+    new-back = back;
+    below = below;
+    above = above;
+    key= = kept-both put (λ (r : Row). r .key) refl refl;
+    element= = kept-both put (λ (r : Row). r .element) refl refl;
+    mark= = kept-both put (λ (r : Row). r .succ .mark) (sym unmarked) (sym (ap (λ (s : Succ). s .mark) found));
+    flag= = kept-both put (λ (r : Row). r .succ .flag) (sym unflagged) (sym (ap (λ (s : Succ). s .flag) found));
+    back= = kept-both put (λ (r : Row). r .backlink) refl refl;
+    new-linked = ap (λ (r : Row). r .standing) (put .first);
+    standing-other = λ x e. elim (ℕ-discrete x prev) [
+      | yes q ↦ ap (λ (y : ℕ). R' y .standing) q ∙ ap (λ (r : Row). r .standing) (put .second) ∙ ap (λ (y : ℕ). R y .standing) (sym q)
+      | no q ↦ ap (λ (r : Row). r .standing) (put .other x e q)
+    ];
+    right-prev = ap (λ (r : Row). r .succ .right) (put .second);
+    right-new = ap (λ (r : Row). r .succ .right) (put .first);
+    right-other = λ x e f. ap (λ (r : Row). r .succ .right) (put .other x f e);
+  }
