@@ -18,7 +18,8 @@ use Rattle.order.specs.Memory.{links-none}
 use Rattle.order.specs.Demand.{stateAt, lineAt, Accepts}
 use Rattle.order.specs.Time.{Ready, Happening, nothing-happens, submits, steps, happening, owned-at, structure-at, step-move}
 use Rattle.order.specs.Running.{TableAt, removedAt, Ends, Continues, runs, ends-now, continues, step-tells}
-use Rattle.order.specs.Courses.{idle-not-busy, Current, current}
+use Rattle.order.specs.OneRequest.{idle-not-busy}
+use Rattle.order.specs.Courses.{Current, current}
 use Rattle.order.specs.MapAt.{mapAt, same-rows-map, Turn, turns-nothing, turns-link, turns-mark, turn-at}
 use Rattle.model.specs.State.{rowAt, idle}
 use Rattle.model.specs.Answers.{line-after}
@@ -34,7 +35,8 @@ use Rattle.model.specs.declared.Call.{Call}
 use Rattle.model.specs.declared.Call.the-variants.{Step}
 use Rattle.order.specs.MapChanges.{Change, adds, removes}
 
-idle-removes-none : (l : Line) → idle l ≡ true → removedRow l ≡ noRowRemoved
+-- an idle worker removes no row
+pub idle-removes-none : (l : Line) → idle l ≡ true → removedRow l ≡ noRowRemoved
 idle-removes-none (Idle a) h = refl
 idle-removes-none (Search l f) h = refl
 idle-removes-none (Insert l f) h = refl

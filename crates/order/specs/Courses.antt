@@ -1,7 +1,7 @@
--- The course of a request: it runs up to a position, or has ended before. A request has one finish, a worker has one request at a time,
--- and a row that a running delete removes stays the same.
+-- The course of a request: it runs up to a position, or has ended before. A worker has one request at a time, and a row that a running
+-- delete removes stays the same.
 use Prim.Native.Nat.{ℕ, zero, suc, _≤_, _<_}
-use mathlib.Core.Bool.{true, false}
+use mathlib.Core.Bool.{true}
 use mathlib.Core.Path.{_≡_, ap, sym, _∙_, subst}
 use mathlib.Core.Logic.{_≢_, _⊎_, inl, inr}
 use mathlib.Core.List.{List}
@@ -9,54 +9,16 @@ use native.Mathlib.Omega.{arith}
 use native.Mathlib.Decide.{ℕ-discrete}
 use Rattle.order.specs.Basics.{clash, Compared, less, equal, more, compared}
 use Rattle.order.specs.Lawful.{noRowRemoved}
-use Rattle.order.specs.Demand.{stateAt, lineAt, Accepts, Request, BusySince, Finished}
-use Rattle.order.specs.Time.{Ready, any-default, Happening, nothing-happens, submits, steps, happening, submit-taken}
+use Rattle.order.specs.OneRequest.{idle-not-busy, same-finish}
+use Rattle.order.specs.Demand.{stateAt, lineAt, Request, BusySince, Finished}
+use Rattle.order.specs.Time.{Ready, Happening, nothing-happens, submits, steps, happening, submit-taken}
 use Rattle.order.specs.Running.{removedAt, Running, Ends, begins, Continues, runs, ends-now, continues}
 use Rattle.model.specs.State.{workerAt, idle}
 use Rattle.model.specs.Run.{run}
 use Rattle.model.specs.declared.Worker.{Worker}
 use Rattle.model.specs.declared.Catalogue.{Catalogue}
 use Rattle.model.specs.declared.Answer.{Answer}
-use Rattle.model.specs.declared.Line.{Line}
-use Rattle.model.specs.declared.Line.the-variants.{Idle}
 use Rattle.model.specs.declared.Call.{Call}
-use Rattle.model.specs.declared.Call.the-variants.{Submit, Step}
-
--- ---- One call at a position, one finish ----
-
--- two accounts of the request submitted at one position
-pub record SameRequest (w code key element w' code' key' element' : ℕ) : Type 0 where
-  pub worker : w' ≡ w
-  pub code-same : code' ≡ code
-  pub key-same : key' ≡ key
-  pub element-same : element' ≡ element
-
--- a worker that is idle is not busy
-pub idle-not-busy : {l : Line} {a : Answer} → l ≡ Idle a → idle l ≡ false → ⊥
-idle-not-busy is busy = clash (ap idle is) busy
-
-module _ {start : Catalogue} {calls : List Call} where
-  pub same-call : (i : ℕ) (x y : Call) → Accepts start calls i x → Accepts start calls i y → x ≡ y
-  same-call i x y a b = sym (a .made) ∙ any-default calls i x y (a .inside) ∙ b .made
-
-  pub same-stepper : (i v w : ℕ) → Accepts start calls i (Step v) → Accepts start calls i (Step w) → v ≡ w
-  same-stepper i v w a b = let e = same-call i (Step v) (Step w) a b in cc
-
-  pub same-request : (s w code key element w' code' key' element' : ℕ) → Request start calls s w code key element
-      → Request start calls s w' code' key' element' → SameRequest w code key element w' code' key' element'
-  same-request s w code key element w' code' key' element' a b =
-      let e = same-call s (Submit w code key element) (Submit w' code' key' element') a b in
-      record { worker = cc; code-same = cc; key-same = cc; element-same = cc }
-
-  pub same-finish : (s w f g : ℕ) (a b : Answer) → Finished start calls s w f a → Finished start calls s w g b → (f ≡ g) × (a ≡ b)
-  same-finish s w f g a b x y = go (compared f g)
-    where
-      go : Compared f g → (f ≡ g) × (a ≡ b)
-      go (less h) = absurd (idle-not-busy (x .answered) (y .busy (suc f) (omega (arith, x .later)) (omega arith)))
-      go (more h) = absurd (idle-not-busy (y .answered) (x .busy (suc g) (omega (arith, y .later)) (omega arith)))
-      go (equal e) =
-          let same : lineAt start calls (suc g) w ≡ Idle a = subst (λ (i : ℕ). lineAt start calls (suc i) w ≡ Idle a) e (x .answered) in
-          (e, cc (y .answered))
 
 module _ {top : ℕ} {start : Catalogue} {calls : List Call} (ready : Ready top start calls) where
   -- ---- Up to a position ----
@@ -146,11 +108,13 @@ module _ {top : ℕ} {start : Catalogue} {calls : List Call} (ready : Ready top 
       ]
 
   -- two requests of one worker do not run at one time
-  overlap : (s w code key element s' code' key' element' u : ℕ) → Running ready s w code key element u → Running ready s' w code' key' element' u → s < s' → ⊥
+  overlap : (s w code key element s' code' key' element' u : ℕ) → Running ready s w code key element u → Running ready s' w code' key' element' u
+      → s < s' → ⊥
   overlap s w code key element s' code' key' element' u r r' h =
       clash (submit-taken ready s' w code' key' element' (r' .request) .was-idle) (r .busy s' h (omega (arith, r' .since)))
 
-  pub alone : (s w code key element s' code' key' element' u : ℕ) → Running ready s w code key element u → Running ready s' w code' key' element' u → s ≡ s'
+  pub alone : (s w code key element s' code' key' element' u : ℕ) → Running ready s w code key element u → Running ready s' w code' key' element' u
+      → s ≡ s'
   alone s w code key element s' code' key' element' u r r' = go (compared s s')
     where
       go : Compared s s' → s ≡ s'
@@ -160,7 +124,8 @@ module _ {top : ℕ} {start : Catalogue} {calls : List Call} (ready : Ready top 
 
   -- ---- The row that a running delete removes ----
 
-  pub removes-on : (s w code key element j u y : ℕ) → Running ready s w code key element u → s < j → j ≤ u → removedAt ready j w ≡ y → y ≢ noRowRemoved
+  pub removes-on : (s w code key element j u y : ℕ) → Running ready s w code key element u → s < j → j ≤ u → removedAt ready j w ≡ y
+      → y ≢ noRowRemoved
       → removedAt ready u w ≡ y
   removes-on s w code key element j zero y r h k is some = absurd (omega arith)
   removes-on s w code key element j (suc u) y r h k is some = go (ℕ-discrete j (suc u))

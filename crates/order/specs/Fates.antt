@@ -19,7 +19,8 @@ use Rattle.order.specs.Asking.{Agrees}
 use Rattle.order.specs.Demand.{stateAt, Accepts, Request, Finished, Removing}
 use Rattle.order.specs.Time.{Ready, Happening, nothing-happens, submits, steps, happening, sound-at, structure-at, step-taken, submit-taken}
 use Rattle.order.specs.Running.{TableAt, removedAt, Running, Ends, begins}
-use Rattle.order.specs.Courses.{same-call, same-request, Course, under-way, over, course, ended-not-running, removes-on}
+use Rattle.order.specs.OneRequest.{same-call, same-request}
+use Rattle.order.specs.Courses.{Course, under-way, over, course, ended-not-running, removes-on}
 use Rattle.order.specs.MapAt.{mapAt}
 use Rattle.order.specs.Moments.{reading, Kind, reads-only, is-full, adds as adds-kind, removes as removes-kind, kind}
 use Rattle.order.specs.Removals.{MarkedAt, removal-marked}
@@ -165,7 +166,8 @@ module _ {top : ℕ} {start : Catalogue} {calls : List Call} (ready : Ready top 
 
     -- it is unfinished, and removes no row that is marked
     waiting : Running ready s w code key element (length calls)
-        → (removedAt ready (length calls) w ≡ noRowRemoved) ⊎ (markOf (TableAt ready (length calls)) (removedAt ready (length calls) w) ≡ false) → Fate s
+        → (removedAt ready (length calls) w ≡ noRowRemoved) ⊎ (markOf (TableAt ready (length calls)) (removedAt ready (length calls) w) ≡ false)
+        → Fate s
     waiting r none = no-place (record {
       not-finished = λ w' code' key' element' f a q x.
           ended-not-running ready s w f (length calls) a
@@ -177,7 +179,8 @@ module _ {top : ℕ} {start : Catalogue} {calls : List Call} (ready : Ready top 
     })
       where
         refuted : RemovesMarked w
-            → (removedAt ready (length calls) w ≡ noRowRemoved) ⊎ (markOf (TableAt ready (length calls)) (removedAt ready (length calls) w) ≡ false) → ⊥
+            → (removedAt ready (length calls) w ≡ noRowRemoved) ⊎ (markOf (TableAt ready (length calls)) (removedAt ready (length calls) w) ≡ false)
+            → ⊥
         refuted m (inl e) = m .0 e
         refuted m (inr e) = clash (m .1) e
 

@@ -164,7 +164,8 @@ full-line-4 rows me f next none-free = go (ltb (lowestFree rows) 128) refl (lowe
     go true e (found free low high rest) = absurd (none-free (lowestFree rows) low high free)
     go true e (none last rest) = absurd (omega (arith, ltb-true (lowestFree rows) 128 e))
 
-insert-finds-none : (rows : List Row) (me : ℕ) (f : InsertFrame) (l : InsertLine) → full (insertLine rows me f l .line) ≡ true → FindsNone rows (Insert l f)
+insert-finds-none : (rows : List Row) (me : ℕ) (f : InsertFrame) (l : InsertLine) → full (insertLine rows me f l .line) ≡ true
+    → FindsNone rows (Insert l f)
 unfolding insertLine insert-6 insert-10-11 insert-15 insert-17 insert-18
 insert-finds-none rows me f (Insert4 next) h = record { next = next; frame = f; at-line-4 = refl; none-free = line-4-full rows me f next h }
 insert-finds-none rows me f (Insert6 next new) h =
@@ -176,7 +177,8 @@ insert-finds-none rows me f (Insert11 next new) h =
 insert-finds-none rows me f (Insert17 new) h = absurd (clash h (if-both NotFullAfter (succAt rows (f .prev) .mark) refl refl))
 insert-finds-none rows me f (Insert18 new) h = absurd (clash h refl)
 
-finds-none : (rows : List Row) (me count : ℕ) (last : Pending) (l : Line) → full l ≡ false → full (lineEffect rows me count last l .line) ≡ true → FindsNone rows l
+finds-none : (rows : List Row) (me count : ℕ) (last : Pending) (l : Line) → full l ≡ false → full (lineEffect rows me count last l .line) ≡ true
+    → FindsNone rows l
 unfolding lineEffect
 finds-none rows me count last (Idle a) before h = absurd (clash h before)
 finds-none rows me count last (Search l f) before h = absurd (clash h (search-not-full rows f l))

@@ -74,7 +74,8 @@ module _ (top : ℕ) (rowsAt : ℕ → List Row) (who : ℕ → ℕ) (sound : (i
 
     -- HelpFlagged, line 4: the second access of its HelpMarked, and the return.
     helpMarked-2-tells : (count : ℕ) (last : Pending) (hs : List Pending) (right : ℕ) → Newest count last hs
-        → AllHold top me (rowAt (rowsAt u)) (facts (Help (HelpMarked2 right) f) hs) → TellsHelp (helpFlagged-4-helpMarked-2 (rowsAt u) count last f right)
+        → AllHold top me (rowAt (rowsAt u)) (facts (Help (HelpMarked2 right) f) hs)
+        → TellsHelp (helpFlagged-4-helpMarked-2 (rowsAt u) count last f right)
     unfolding helpFlagged-4-helpMarked-2 helpMarked-2
     helpMarked-2-tells count last hs right (pending some newest) known = rw (ne-eqb count 0 some) (record {
       next = record { operation-same = refl; past = past; removed-same = inr refl };

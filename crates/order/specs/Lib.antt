@@ -20,6 +20,7 @@ pub mod Hindsight
 pub mod MapMoves
 pub mod PlainMap
 pub mod Demand
+pub mod OneRequest
 pub mod MapOfTable
 pub mod Timeline
 pub mod ChainHindsight
@@ -68,3 +69,6 @@ pub mod OrderOfRun
 pub mod Replay
 pub mod FullAnswer
 pub mod OrderTheorem
+pub mod SavesFound
+pub mod LostSave
+pub mod Excluded

@@ -37,6 +37,7 @@ module _ (top : ℕ) (rowsAt : ℕ → List Row) (who : ℕ → ℕ) (sound : (i
   line-tells count last hs (Help l f) newest busy known past = help-tells top rowsAt who sound move t u since me f past l count last hs newest known
 
   pub effect-tells : (k : Worker) → idle (k .line) ≡ false → AllHold top me (rowAt (rowsAt u)) (facts (k .line) (stackOf k))
-      → Past (λ (i : ℕ). rowAt (rowsAt i)) t u (k .line) → Tells me rowsAt t u (operationOf (k .line)) (removedRow (k .line)) (effectOf (rowsAt u) me k)
+      → Past (λ (i : ℕ). rowAt (rowsAt i)) t u (k .line)
+      → Tells me rowsAt t u (operationOf (k .line)) (removedRow (k .line)) (effectOf (rowsAt u) me k)
   unfolding effectOf
   effect-tells k busy known past = line-tells (k .count) _ (stackOf k) (k .line) (newest (k .helps) (k .count)) busy known past

@@ -19,7 +19,8 @@ use Rattle.order.specs.Memory.{Answered, LinksRow}
 use Rattle.order.specs.Demand.{stateAt, Accepts, Request, Removing}
 use Rattle.order.specs.Time.{Ready, Happening, nothing-happens, submits, steps, happening, owned-at, structure-at, mover-at, move-at}
 use Rattle.order.specs.Running.{TableAt, removedAt, Running, Ends}
-use Rattle.order.specs.Courses.{same-stepper, same-request, same-finish, ended-not-running, Course, under-way, over, course, alone, removes-on}
+use Rattle.order.specs.OneRequest.{same-stepper, same-request, same-finish}
+use Rattle.order.specs.Courses.{ended-not-running, Course, under-way, over, course, alone, removes-on}
 use Rattle.order.specs.MapAt.{mapAt, link-of, mark-agrees}
 use Rattle.order.specs.Moments.{reading, Kind, reads-only, is-full, adds as adds-kind, removes as removes-kind, kind}
 use Rattle.order.specs.Removals.{removes-save, removal-answer, removing}
@@ -128,7 +129,8 @@ module _ {top : ℕ} {start : Catalogue} {calls : List Call} (ready : Ready top 
       let e' = by-request (λ v c k x. Ends ready s v c k x T Added) s w' code' key' element' w code key element (r .request) (e .running .request) e in
       not-removed refl (ends-removed s w' code' key' element' T' T y Added r is some e' .1)
 
-  removal-before : {A : Type 0} (s w code key element T T' y y' : ℕ) → Running ready s w code key element T → removedAt ready T w ≡ y → y ≢ noRowRemoved
+  removal-before : {A : Type 0} (s w code key element T T' y y' : ℕ) → Running ready s w code key element T → removedAt ready T w ≡ y
+      → y ≢ noRowRemoved
       → markOf (TableAt ready (suc T)) y ≡ true → Running ready s w code key element T' → removedAt ready T' w ≡ y'
       → markOf (TableAt ready T') y' ≡ false → T < T' → A
   removal-before s w code key element T T' y y' r is some marked r' is' unmarked' h =

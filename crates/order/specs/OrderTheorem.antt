@@ -1,26 +1,32 @@
 -- Demand 3, proved: for any calls from the empty catalogue; and from any state in which no worker is busy, the rows have their structure and
 -- no flag is without an owner, with the map of its chain.
 use Prim.Native.Nat.{ℕ, _+_, _≤_, _<_}
-use mathlib.Core.Path.{_≡_, refl, sym, subst}
+use mathlib.Core.Bool.{true, false}
+use mathlib.Core.Path.{_≡_, refl, ap, sym, _∙_, subst}
 use mathlib.Core.List.{List, List·Memᴰ}
 use mathlib.Core.Option.{Option, none, some}
 use native.Mathlib.Omega.{arith}
 use lib.ListN.{length}
+use Rattle.order.specs.Basics.{clash}
+use Rattle.order.specs.Table.{flagOf}
 use Rattle.order.specs.Structure.{Structure}
 use Rattle.order.specs.TableMap.{Has, shown-has, has-shown}
 use Rattle.order.specs.Walk.{walk-meets-chain}
 use Rattle.order.specs.PlainMap.{PlainMap, emptyMap}
 use Rattle.order.specs.MapOfTable.{Entry, IsMapOf, empty-map, map-has}
-use Rattle.order.specs.Sound.{empty-sound}
-use Rattle.order.specs.Demand.{stateAt, Placed, Ordered, FullExactly, UnmarkedSave, HoldsTheChain, DemandThree}
-use Rattle.order.specs.Time.{Ready, state-end, sound-at, structure-at}
+use Rattle.order.specs.Sound.{Sound, empty-sound, all-fresh}
+use Rattle.order.specs.SoundKept.{KeysFit, topOver, keys-fit, top-positive}
+use Rattle.order.specs.Owners.{Owned, empty-owned}
 use Rattle.order.specs.Reached.{empty-ready}
+use Rattle.order.specs.Demand.{stateAt, Placed, Ordered, FullExactly, UnmarkedSave, HoldsTheChain, DemandThree}
+use Rattle.order.specs.Time.{Ready, state-end, sound-at, owned-at, structure-at}
 use Rattle.order.specs.MapAt.{mapAt, is-map-at, is-the-map}
+use Rattle.order.specs.Causes.{idle-removes-none}
 use Rattle.order.specs.Placing.{once-at}
 use Rattle.order.specs.OrderOfRun.{orderFrom, HasPlace, has-place, stands, in-order-from, order-sorted, order-once, entry-of, moment-of}
 use Rattle.order.specs.Replay.{order-replays}
 use Rattle.order.specs.FullAnswer.{full-exactly}
-use Rattle.model.specs.State.{rowAt, emptyCatalogue}
+use Rattle.model.specs.State.{rowAt, workerAt, idle, emptyCatalogue}
 use Rattle.model.specs.Run.{run}
 use Rattle.model.specs.declared.Row.{Row}
 use Rattle.model.specs.declared.Catalogue.{Catalogue}
@@ -116,6 +122,43 @@ demand-from start calls before ready holds = record {
     first : before ≡ mapAt ready 0
     first = is-the-map ready 0 before
         (chain-held-is-map (start .rows) (omega (arith, ready .sound .row-count)) (ready .sound .structure) before holds)
+
+-- ---- States at rest ----
+
+abbrev pub AllIdle : Catalogue → Type 0
+AllIdle c = (w : ℕ) → idle (workerAt (c .workers) w .line) ≡ true
+
+abbrev pub NoneFlagged : Catalogue → Type 0
+NoneFlagged c = (x : ℕ) → flagOf (rowAt (c .rows)) x ≡ false
+
+-- a sound state at rest, in which no flag is set
+pub rest-ready : {top : ℕ} {start : Catalogue} {calls : List Call} → Sound top start → AllIdle start → NoneFlagged start → KeysFit top calls
+    → Ready top start calls
+rest-ready {start = start} sound at-rest unflagged fits = record {
+  sound = sound;
+  owned = record {
+    owner = λ p h. absurd (clash h (unflagged p));
+    only = λ u v row some mine theirs.
+        absurd (some (sym mine ∙ idle-removes-none (workerAt (start .workers) u .line) (at-rest u)));
+  };
+  at-rest = at-rest;
+  fits = fits;
+}
+
+pub demand-at-rest : {top : ℕ} (start : Catalogue) (calls : List Call) (before : PlainMap) → Sound top start → AllIdle start → NoneFlagged start
+    → KeysFit top calls → HoldsTheChain before (start .rows) → DemandFrom start calls before
+demand-at-rest start calls before sound at-rest unflagged fits holds =
+    demand-from start calls before (rest-ready sound at-rest unflagged fits) holds
+
+-- A run that ends with all workers idle leaves such a state: the next run may begin there.
+pub ready-again : {top : ℕ} {start : Catalogue} {calls : List Call} (more : List Call) → Ready top start calls → AllIdle (run start calls)
+    → KeysFit top more → Ready top (run start calls) more
+ready-again {top} {start} {calls} more ready at-rest fits = record {
+  sound = subst (Sound top) (state-end start calls) (sound-at ready (length calls));
+  owned = subst Owned (state-end start calls) (owned-at ready (length calls));
+  at-rest = at-rest;
+  fits = fits;
+}
 
 -- ---- The empty catalogue ----
 

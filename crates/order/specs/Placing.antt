@@ -82,7 +82,8 @@ module _ (start : Catalogue) (calls : List Call) where
   of-placed t [] p m = absurd (List·Memᴰ·not-nil m)
   of-placed t (x ∷ xs) p m = go (List·Memᴰ·cases-cons m) (λ k. of-placed t xs p k)
     where
-      go : (p ≡ record { request = x; moment = t }) ⊎ List·Memᴰ p (placedAt t xs) → (List·Memᴰ p (placedAt t xs) → (p .moment ≡ t) × Among (p .request) xs)
+      go : (p ≡ record { request = x; moment = t }) ⊎ List·Memᴰ p (placedAt t xs)
+          → (List·Memᴰ p (placedAt t xs) → (p .moment ≡ t) × Among (p .request) xs)
           → (p .moment ≡ t) × Among (p .request) (x ∷ xs)
       go (inl e) rest = (ap (λ (q : Placed start calls). q .moment) e, List·Memᴰ·head (ap (λ (q : Placed start calls). q .request) e))
       go (inr k) rest = (rest k .0, List·Memᴰ·tail (rest k .1))

@@ -55,7 +55,8 @@ module _ (top w : ℕ) (R : Table) where
       record { key = f .key; is-delete = targets-operation targets; save = target-known top w R hs targets known }
   target-removed l f hs (Delete6 target false) e known some = absurd (some refl)
 
-  removed-save : (l : Line) (hs : List Pending) → AllHold top w R (facts l hs) → removedRow l ≢ noRowRemoved → RemovesSave R (operationOf l) (removedRow l)
+  removed-save : (l : Line) (hs : List Pending) → AllHold top w R (facts l hs) → removedRow l ≢ noRowRemoved
+      → RemovesSave R (operationOf l) (removedRow l)
   removed-save (Idle a) hs known some = absurd (some refl)
   removed-save (Search l f) hs known some = absurd (some refl)
   removed-save (Insert l f) hs known some = absurd (some refl)
@@ -187,11 +188,13 @@ module _ {top : ℕ} {start : Catalogue} {calls : List Call} (ready : Ready top 
         operation-same = ap (λ (c : ℕ). operation c key element) (d .three);
       }
 
-  pub removing : (s w code key element y : ℕ) → Running ready s w code key element (length calls) → removedAt ready (length calls) w ≡ y → y ≢ noRowRemoved
+  pub removing : (s w code key element y : ℕ) → Running ready s w code key element (length calls) → removedAt ready (length calls) w ≡ y
+      → y ≢ noRowRemoved
       → markOf (TableAt ready (length calls)) y ≡ true → Removing start calls s w
   removing s w code key element y r is some marked = go (r .claim)
     where
-      go : (removedAt ready (length calls) w ≡ noRowRemoved) ⊎ Claimed ready s w (length calls) (removedAt ready (length calls) w) → Removing start calls s w
+      go : (removedAt ready (length calls) w ≡ noRowRemoved) ⊎ Claimed ready s w (length calls) (removedAt ready (length calls) w)
+          → Removing start calls s w
       go (inl none) = absurd (some (sym is ∙ none))
       go (inr c) = record {
         key = key;

@@ -39,7 +39,8 @@ module _ (top : ℕ) (rowsAt : ℕ → List Row) (who : ℕ → ℕ) (sound : (i
     (move : (i : ℕ) → Move top (who i) (rowAt (rowsAt i)) (rowAt (rowsAt (suc i)))) (t u : ℕ) (since : t ≤ u) (me : ℕ) where
   -- Search, lines 2 to 5.
   search-2-tells : (k curr next : ℕ) → suc k < top → RegularWithin (λ (i : ℕ). rowAt (rowsAt i)) t u curr next
-      → AtMost top (rowAt (rowsAt u)) curr (suc k) → Above top (rowAt (rowsAt u)) next (suc k) → Tells me rowsAt t u (search k) 0 (search-2 (rowsAt u) k curr)
+      → AtMost top (rowAt (rowsAt u)) curr (suc k) → Above top (rowAt (rowsAt u)) next (suc k)
+      → Tells me rowsAt t u (search k) 0 (search-2 (rowsAt u) k curr)
   unfolding search-2
   search-2-tells k curr next fits was low high =
       if-known (Tells me rowsAt t u (search k) 0) (hasKey (rowsAt u) curr k)

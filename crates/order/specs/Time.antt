@@ -16,6 +16,7 @@ use Rattle.order.specs.Sound.{Sound}
 use Rattle.order.specs.SoundKept.{KeysFit, run-keeps-sound, step-lawful}
 use Rattle.order.specs.Owners.{Owned, event-keeps-owned}
 use Rattle.order.specs.Demand.{stateAt, Accepts}
+use Rattle.order.specs.OneRequest.{any-default}
 use Rattle.model.specs.State.{rowAt, workerAt, idle}
 use Rattle.model.specs.Run.{call, run}
 use Rattle.model.specs.declared.Row.{Row}
@@ -39,11 +40,6 @@ run-append : (c : Catalogue) (xs ys : List Call) → run c (xs ++ ys) ≡ run (r
 unfolding run
 run-append c [] ys = refl
 run-append c (x ∷ xs) ys = run-append (call c x .state) xs ys
-
-pub any-default : (calls : List Call) (i : ℕ) (x y : Call) → i < length calls → getD calls i x ≡ getD calls i y
-any-default [] i x y inside = absurd (omega arith)
-any-default (c ∷ cs) zero x y inside = refl
-any-default (c ∷ cs) (suc i) x y inside = any-default cs i x y (omega arith)
 
 fits-before : (top i : ℕ) (calls : List Call) → KeysFit top calls → KeysFit top (take i calls)
 fits-before top zero calls fits = tt
@@ -125,7 +121,8 @@ module _ {top : ℕ} {start : Catalogue} {calls : List Call} (ready : Ready top 
   pub step-taken : (i w : ℕ) → Accepts start calls i (Step w) → StepTaken (stateAt start calls i) (stateAt start calls (suc i)) w
   step-taken i w a = go (event-at i (Step w))
     where
-      go : Event (stateAt start calls i) (Step w) (call (stateAt start calls i) (Step w)) → StepTaken (stateAt start calls i) (stateAt start calls (suc i)) w
+      go : Event (stateAt start calls i) (Step w) (call (stateAt start calls i) (Step w))
+          → StepTaken (stateAt start calls i) (stateAt start calls (suc i)) w
       go (refused r v same) = accepted-refused (a .accepted) v
       go (submitted v code key element small is q s) = let z : _≡_ {A = ℕ} 0 1 = cc in absurd (omega arith)
       go (stepped v small is q s) =
