@@ -1,0 +1,5 @@
+pub mod Walk
+pub mod Finish
+pub mod Result
+pub mod Leaves
+pub mod Coincide

@@ -1,0 +1,8 @@
+pub mod Shown
+pub mod Digits
+pub mod Lines
+pub mod Rows
+pub mod Records
+pub mod Events
+pub mod Whole
+pub mod Determined
