@@ -1,5 +1,3 @@
-pub mod Tests
-pub mod Rows
 pub mod Slots
 pub mod Loops
 pub mod Steps

@@ -1,15 +1,6 @@
-// The code that runs, by value: the well-formedness check, submit, step and turn, each proved equal to the model's definition of the
-// same name, for every state and every number. Whoever lends a worker's record or rows goes through the crate above.
+// The catalogue's calls by value: the well-formedness check, submit, step and a turn. The contract of each says that its result is the
+// model's definition of it.
 
-mod act;
-mod cas;
-mod delete;
-mod effects;
-mod help_flagged;
-mod help_marked;
-mod insert;
-mod order;
-mod search_from;
 mod slots;
 mod steps;
 mod turns;

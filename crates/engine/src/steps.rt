@@ -8,25 +8,25 @@ ghost use lib.ListN.{length, set};
 ghost use Rattle.model.specs.State.{helpAt, idle, rowAt};
 ghost use Rattle.model.specs.Insert.{isFree, lowestFree};
 ghost use Rattle.model.specs.declared.Row.{Row};
-ghost use Rattle.engine.specs.Rows.{firstRow, secondRow, takesRow};
+ghost use Rattle.lines.specs.Rows.{firstRow, secondRow, takesRow};
 ghost use Rattle.engine.specs.Slots.{freshWorker};
-ghost use Rattle.model.specs.Step.{effectOf, stacked, workerAfter, ninthHelp, stepWorker, step, isRequest, firstLine, submit};
-use crate::act::act;
-use crate::act::first_row;
-use crate::act::second_row;
-use crate::act::takes_row;
-use crate::effects::call_search_from;
+ghost use Rattle.model.specs.Step.{effectOf, stacked, workerAfter, ninthHelp, stepWorker, step, submit};
 use crate::slots::row_after;
 use crate::slots::row_or_free;
 use crate::slots::row_slot;
 use crate::well::well_formed;
+use lines::act;
+use lines::first_line;
+use lines::first_row;
+use lines::is_request;
+use lines::second_row;
+use lines::takes_row;
 use model::Catalogue;
 use model::Effect;
 use model::Line;
 use model::Pending;
 use model::Refusal;
 use model::Row;
-use model::SearchCaller;
 use model::Stack;
 use model::Standing;
 use model::Stepped;
@@ -273,28 +273,6 @@ pub fn step(state: Catalogue, worker: u32) -> Stepped
 }
 
 // ---- Submit ----
-
-fn is_request(code: u32) -> bool
-    ensures { λ r. ⌜ r ≡ isRequest code ⌝ }
-{
-    if code == 0 {
-        return false;
-    }
-    code <= 3
-}
-
-// The private work before a request's first access.
-fn first_line(code: u32, key: u32, element: u32) -> Line
-    ensures { λ r. ⌜ r ≡ firstLine code key element ⌝ }
-{
-    if code == 1 {
-        return call_search_from(key, 0, 0, SearchCaller::Search1);
-    }
-    if code == 2 {
-        return call_search_from(key, element, 0, SearchCaller::Insert1);
-    }
-    call_search_from(key, 0, 0, SearchCaller::Delete1)
-}
 
 // Submit, refusals 1, 4, 6, 2.
 pub fn submit(state: Catalogue, worker: u32, code: u32, key: u32, element: u32) -> Stepped

@@ -91,7 +91,8 @@ module _ (start : Catalogue) (calls : List Call) where
         rw o (added-holds m (afterAsking m (insert k e)) k e (record { answer = ap (answerOf m) (sym o) ∙ ans ∙ added; after = refl }))
 
     -- it is no Full
-    add-not-full : {A : Type 0} (p : Placed start calls) (v code key element g : ℕ) → p .request ≡ s → Request start calls (p .request) v code key element
+    add-not-full : {A : Type 0} (p : Placed start calls) (v code key element g : ℕ) → p .request ≡ s
+        → Request start calls (p .request) v code key element
         → Finished start calls (p .request) v g Full → A
     add-not-full p v code key element g same r x =
         let q = same-request s w 2 k e v code key element request (subst (λ (i : ℕ). Request start calls i v code key element) same r) in
@@ -225,7 +226,8 @@ module _ (start : Catalogue) (calls : List Call) where
               let a = asks-later add other in
               omega (arith, lowest (b .sorted) (a .0) (a .2), b .add-early (a .0) (List·Memᴰ·tail (a .2)) (a .1), b .request-late p (List·Memᴰ·head refl) same)
 
-      refuted : {m n : PlainMap} {ps : List (Placed start calls)} → Replays start calls m ps n → Bounds ps → Asks s ps → Asks q ps → OnlyItDeletes ps → ⊥
+      refuted : {m n : PlainMap} {ps : List (Placed start calls)} → Replays start calls m ps n → Bounds ps → Asks s ps → Asks q ps
+          → OnlyItDeletes ps → ⊥
       refuted at-end b (p, same, i) asks only = List·Memᴰ·not-nil i
       refuted {m} (answers {p = p} u code' key' element' g a r x some-answer ans rest) b add asks only =
           first-of b add asks (λ same j. until rest (add-entry m p u code' key' element' g a same r x ans) j (λ y i. only y (List·Memᴰ·tail i)))

@@ -3,7 +3,7 @@
 use mathlib.Core.Path.{_≡_, _∙_, sym, ap}
 use native.Mathlib.Omega.{arith}
 use lib.Seq.{set-out}
-use Rattle.engine.specs.Tests.{tests}
+use Rattle.lines.specs.Tests.{tests}
 use Rattle.engine.specs.Slots.{set-found}
 use Rattle.engine.proofs.slots.row_after.Statement.{statement}
 use Rattle.engine.proofs.slots.row_after.Tie as tie

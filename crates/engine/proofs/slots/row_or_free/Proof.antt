@@ -1,10 +1,9 @@
 -- `row_or_free` meets its contract: below 128 the slot is the row's own, and from 128 on a look-up gives the free row.
-use borrow.Author.Needs.{needs}
 use mathlib.Core.Path.{_∙_, sym}
 use native.Mathlib.Omega.{arith}
 use lib.ListN.{List·getD-eq-default}
 use Rattle.model.specs.State.{freeRow}
-use Rattle.engine.specs.Tests.{tests}
+use Rattle.lines.specs.Tests.{tests}
 use Rattle.engine.proofs.slots.row_or_free.Statement.{statement}
 use Rattle.engine.proofs.slots.row_or_free.Tie as tie
 
@@ -13,5 +12,5 @@ row-or-free-spec =
     tie.close
     (tie.spec
     (λ c rows size at-slot. sym (simp (tests, c .if1 .taken) at at-slot))
-    (λ c κs. search needs)
+    (λ c κs. tt)
     (λ c rows size at-slot. c .free-row .ensures ∙ sym (List·getD-eq-default rows freeRow {n = c .before .before .args .i} (omega arith))))

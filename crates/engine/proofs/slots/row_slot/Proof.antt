@@ -1,6 +1,6 @@
 -- `row_slot` meets its contract: each way of its test gives that way's number, which is below 128.
 use native.Mathlib.Omega.{arith}
-use Rattle.engine.specs.Tests.{tests}
+use Rattle.lines.specs.Tests.{tests}
 use Rattle.engine.proofs.slots.row_slot.Statement.{statement}
 use Rattle.engine.proofs.slots.row_slot.Tie as tie
 

@@ -1,5 +1,4 @@
 -- `effect_on` meets its contract: it looks up the last pending help, and the rest is `act`.
-use borrow.Author.Needs.{needs}
 use Rattle.model.specs.Step.{effectOf}
 use Rattle.engine.proofs.steps.effect_on.Statement.{statement}
 use Rattle.engine.proofs.steps.effect_on.Tie as tie
@@ -9,7 +8,7 @@ unfolding effectOf
 effect-on-spec =
     tie.close
     (tie.spec
-    (λ c κs. search needs)
-    (λ c κs. search needs)
-    (λ c κs. search needs)
+    (λ c κs. tt)
+    (λ c κs. tt)
+    (λ c κs. tt)
     (λ c rows size at-first at-second lowest. cc (c .act .ensures rows size at-first at-second lowest)))

@@ -28,7 +28,7 @@ lowest-free-spec =
     (λ c. search needs)
     (λ c. search needs)
     (λ c. search needs)
-    (λ c κs. search needs)
+    (λ c κs. tt)
     (λ c.
     let k = c .before .before .before .before in
     sym (k .loop .inv .1 .1 ∙ free-stop (k .before .args .t1 .rows) (k .loop .i) (omega arith) (sym (c .before .is-free .ensures) ∙ c .if1 .taken)))

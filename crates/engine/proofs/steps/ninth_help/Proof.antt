@@ -1,7 +1,6 @@
--- TODO
+-- `ninth_help` meets its contract: each case gives the definition's value.
 use borrow.Author.Needs.{needs}
 use Rattle.model.specs.Step.{ninthHelp}
-use Rattle.engine.specs.Tests.{tests}
 use Rattle.engine.proofs.steps.ninth_help.Statement.{statement}
 use Rattle.engine.proofs.steps.ninth_help.Tie as tie
 
@@ -13,6 +12,6 @@ ninth-help-spec =
     (λ c. search needs)
     (λ c. search needs)
     (λ c. search needs)
-    (λ c. simp (tests, c .enum-told .given .1) cc)
-    (λ c. simp (tests, c .enum-told2 .given .1) cc)
-    (λ c. simp (tests, c .enum-told3 .given .1) cc))
+    (λ c. simp (c .enum-told .given .1) cc)
+    (λ c. simp (c .enum-told2 .given .1) cc)
+    (λ c. simp (c .enum-told3 .given .1) cc))

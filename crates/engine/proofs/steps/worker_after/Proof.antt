@@ -1,7 +1,6 @@
--- TODO
+-- `worker_after` meets its contract: a finish makes every other register zero, and else the helps are stacked.
 use borrow.Author.Needs.{needs}
 use Rattle.model.specs.Step.{workerAfter}
-use Rattle.engine.specs.Tests.{tests}
 use Rattle.engine.proofs.steps.worker_after.Statement.{statement}
 use Rattle.engine.proofs.steps.worker_after.Tie as tie
 
@@ -12,6 +11,6 @@ worker-after-spec =
     (tie.spec
     (λ c κs. search needs)
     (λ c κs. search needs)
-    (λ c. simp (tests, ← c .fresh-worker .ensures, c .before .if1 .taken, ← c .before .before .is-idle .ensures) cc)
+    (λ c. simp (← c .fresh-worker .ensures, c .before .if1 .taken, ← c .before .before .is-idle .ensures) cc)
     (λ c κs. search needs)
-    (λ c. simp (tests, ← c .stacked .ensures, c .before .if1 .left, ← c .before .before .is-idle .ensures) cc))
+    (λ c. simp (← c .stacked .ensures, c .before .if1 .left, ← c .before .before .is-idle .ensures) cc))

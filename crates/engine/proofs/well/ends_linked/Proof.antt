@@ -1,6 +1,5 @@
--- TODO
-use borrow.Author.Needs.{needs}
-use Rattle.engine.specs.Tests.{tests}
+-- `ends_linked` meets its contract: the test of the row number is the definition's.
+use Rattle.lines.specs.Tests.{tests}
 use Rattle.engine.proofs.well.ends_linked.Statement.{statement}
 use Rattle.engine.proofs.well.ends_linked.Tie as tie
 
@@ -8,6 +7,6 @@ pub ends-linked-spec : {M : Type 1} → statement M
 ends-linked-spec =
     tie.close
     (tie.spec
-    (λ c κs. search needs)
+    (λ c κs. tt)
     (λ c. simp (tests, ← c .is-linked .ensures, c .before .if1 .taken) cc)
     (λ c. simp (tests, c .if1 .left) cc))

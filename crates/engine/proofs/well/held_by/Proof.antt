@@ -1,6 +1,5 @@
--- TODO
+-- `held_by` meets its contract: each standing gives the definition's value.
 use borrow.Author.Needs.{needs}
-use Rattle.engine.specs.Tests.{tests}
 use Rattle.engine.proofs.well.held_by.Statement.{statement}
 use Rattle.engine.proofs.well.held_by.Tie as tie
 
@@ -12,5 +11,5 @@ held-by-spec =
     (λ c. search needs)
     (λ c. search needs)
     (λ c. search needs)
-    (λ c. simp (tests, c .before .s .given .1) cc)
+    (λ c. simp (c .before .s .given .1) cc)
     (λ c. search needs))

@@ -1,7 +1,6 @@
--- TODO
+-- `held_row` meets its contract: each group names the row that the definition names.
 use borrow.Author.Needs.{needs}
 use Rattle.model.specs.WellFormed.{heldRow}
-use Rattle.engine.specs.Tests.{tests}
 use Rattle.engine.proofs.well.held_row.Statement.{statement}
 use Rattle.engine.proofs.well.held_row.Tie as tie
 
@@ -12,14 +11,14 @@ held-row-spec =
     (tie.spec
     (λ c. search needs)
     (λ c. search needs)
-    (λ c κs. search needs)
+    (λ c κs. tt)
     (λ c. search needs)
-    (λ c κs. search needs)
+    (λ c κs. tt)
     (λ c. search needs)
     (λ c. search needs)
-    (λ c κs. search needs)
-    (λ c. simp (tests, c .enum-told .given .1) cc)
-    (λ c. simp (tests, ← c .held-in-search .ensures, c .before .before .line .given .1) cc)
-    (λ c. simp (tests, ← c .held-in-insert .ensures, c .before .before .line2 .given .1) cc)
-    (λ c. simp (tests, c .enum-told2 .given .1) cc)
-    (λ c. simp (tests, ← c .held-in-help .ensures, c .before .before .line3 .given .1) cc))
+    (λ c κs. tt)
+    (λ c. simp (c .enum-told .given .1) cc)
+    (λ c. simp (← c .held-in-search .ensures, c .before .before .line .given .1) cc)
+    (λ c. simp (← c .held-in-insert .ensures, c .before .before .line2 .given .1) cc)
+    (λ c. simp (c .enum-told2 .given .1) cc)
+    (λ c. simp (← c .held-in-help .ensures, c .before .before .line3 .given .1) cc))

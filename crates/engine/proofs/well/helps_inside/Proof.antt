@@ -1,6 +1,5 @@
--- TODO
+-- `helps_inside` meets its contract: the test of the line is the definition's.
 use borrow.Author.Needs.{needs}
-use Rattle.engine.specs.Tests.{tests}
 use Rattle.engine.proofs.well.helps_inside.Statement.{statement}
 use Rattle.engine.proofs.well.helps_inside.Tie as tie
 
@@ -8,6 +7,6 @@ pub helps-inside-spec : {M : Type 1} → statement M
 helps-inside-spec =
     tie.close
     (tie.spec
-    (λ c κs. search needs)
+    (λ c κs. tt)
     (λ c. search needs)
-    (λ c. simp (tests, c .before .if1 .left, ← c .before .before .inside-help-flagged .ensures) cc))
+    (λ c. simp (c .before .if1 .left, ← c .before .before .inside-help-flagged .ensures) cc))

@@ -26,7 +26,7 @@ helps-numbers-spec =
     (λ c. (search needs, (search needs, refl)))
     (λ c. search needs)
     (λ c. search needs)
-    (λ c κs. search needs)
+    (λ c κs. tt)
     (λ c. search needs)
     (λ c. search needs)
     (λ c. let k = c .before .before .before .before in (k .loop .inv .0, (search needs, k .loop .inv .1 .1 ∙ all-more pendingNumbers (k .before .args .t1) (k .loop .i) _ (omega arith) (sym (c .before .pending-numbers .ensures) ∙ c .if1 .taken))))

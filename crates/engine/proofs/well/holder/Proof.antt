@@ -1,7 +1,7 @@
 -- `holder` meets its contract: each way of its test gives that way's number, which is below 8.
 use borrow.Author.Needs.{needs}
 use native.Mathlib.Omega.{arith}
-use Rattle.engine.specs.Tests.{tests}
+use Rattle.lines.specs.Tests.{tests}
 use Rattle.engine.proofs.well.holder.Statement.{statement}
 use Rattle.engine.proofs.well.holder.Tie as tie
 

@@ -1,7 +1,6 @@
--- TODO
-use borrow.Author.Needs.{needs}
+-- `named_is_held` meets its contract: the row given is the one that the line names.
 use Rattle.model.specs.WellFormed.{namedIsHeld}
-use Rattle.engine.specs.Tests.{tests}
+use Rattle.lines.specs.Tests.{tests}
 use Rattle.engine.proofs.well.named_is_held.Statement.{statement}
 use Rattle.engine.proofs.well.named_is_held.Tie as tie
 
@@ -10,7 +9,7 @@ unfolding namedIsHeld
 named-is-held-spec =
     tie.close
     (tie.spec
-    (λ c κs. search needs)
+    (λ c κs. tt)
     (λ c rows at-named. simp (tests, c .if1 .taken, ← c .before .held-row .ensures) cc)
-    (λ c κs. search needs)
-    (λ c rows at-named. simp (tests, ← c .held-by .ensures, c .before .if1 .left, ← c .before .before .held-row .ensures) cc))
+    (λ c κs. tt)
+    (λ c rows at-named. simp (tests, c .before .if1 .left, ← c .before .before .held-row .ensures) cc))

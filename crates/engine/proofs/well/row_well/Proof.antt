@@ -1,5 +1,4 @@
--- TODO
-use borrow.Author.Needs.{needs}
+-- `row_well` meets its contract: each call gives one part of the definition, and they are joined in its order.
 use Rattle.model.specs.WellFormed.{rowWell}
 use Rattle.engine.proofs.well.row_well.Statement.{statement}
 use Rattle.engine.proofs.well.row_well.Tie as tie
@@ -9,11 +8,11 @@ unfolding rowWell
 row-well-spec =
     tie.close
     (tie.spec
-    (λ c κs. search needs)
-    (λ c κs. search needs)
-    (λ c κs. search needs)
-    (λ c κs. search needs)
-    (λ c κs. search needs)
-    (λ c κs. search needs)
-    (λ c κs. search needs)
-    (λ c workers at-line. cc (c .before .holder-names .ensures workers at-line)))
+    (λ c κs. tt)
+    (λ c κs. tt)
+    (λ c κs. tt)
+    (λ c κs. tt)
+    (λ c κs. tt)
+    (λ c κs. tt)
+    (λ c κs. tt)
+    (λ c workers at-line. simp (c .both3 .ensures, c .before .holder-names .ensures workers at-line, c .before .before .both2 .ensures, c .before .before .before .ends-linked .ensures, c .before .before .before .before .both .ensures, c .before .before .before .before .before .not-both .ensures, c .before .before .before .before .before .before .row-numbers .ensures)))

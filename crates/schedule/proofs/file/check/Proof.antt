@@ -1,13 +1,15 @@
 -- `check` makes the tests of `fileVerdict` in their order: at each return those before it have failed.
 use borrow.Author.Needs.{needs}
-use borrow.Author.Tests.{le-ltb, eq-eqb}
+use borrow.Author.Tests.{lt-ltb, le-ltb, eq-eqb, ne-eqb}
 use mathlib.Core.Path.{sym, _∙_}
 use lib.ListN.{length-drop}
-use Rattle.engine.specs.Tests.{tests}
 use Rattle.model.specs.Schedule.{fileVerdict}
 use Rattle.schedule.specs.Records.{fitsFrom}
 use Rattle.schedule.proofs.file.check.Statement.{statement}
 use Rattle.schedule.proofs.file.check.Tie as tie
+
+-- what a test of the code says of the same test in the definition
+ruleset tests = (lt-ltb, le-ltb, eq-eqb, ne-eqb)
 
 pub check-spec : {M : Type 1} → statement M
 unfolding fileVerdict fitsFrom
@@ -24,7 +26,7 @@ check-spec =
     simp (tests, read .before .before .if1 .left, c .if2 .taken))
     (λ c.
     let read = c .before .before in
-    simp (tests, read .before .before .if1 .left, c .before .if2 .left, ← read .two-bytes .ensures .0, c .if3 .taken))
+    simp (tests, read .before .before .if1 .left, c .before .if2 .left, ← read .two-bytes .ensures .0, lt-ltb _ _ (c .if3 .taken)))
     (λ c.
     let read = c .before .before .before in
     simp (
