@@ -6,11 +6,11 @@ use lib.ListN.{length}
 use Rattle.schedule.specs.Events.{next-later}
 use Rattle.schedule.specs.declared.run.Run.{Run}
 use borrow.Author.Needs.{needs}
-use Rattle.replay.proofs.run_events.Statement.{statement}
-use Rattle.replay.proofs.run_events.Tie as tie
-use Rattle.replay.proofs.run_events.Reads as reads
-use Rattle.replay.proofs.run_events.Lts as lts
-use Rattle.replay.proofs.show.Reads as show-reads
+use Rattle.printer.proofs.run_events.Statement.{statement}
+use Rattle.printer.proofs.run_events.Tie as tie
+use Rattle.printer.proofs.run_events.Reads as reads
+use Rattle.printer.proofs.run_events.Lts as lts
+use Rattle.printer.proofs.show.Reads as show-reads
 use Rattle.schedule.proofs.last_line.Reads as last-line-reads
 use Rattle.schedule.proofs.run.Run.start.Reads as start-reads
 use Rattle.schedule.proofs.next_event.Reads as next-event-reads

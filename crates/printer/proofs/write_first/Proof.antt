@@ -3,8 +3,8 @@ use borrow.Author.Needs.{needs}
 use native.Mathlib.Omega.{arith}
 use mathlib.Core.Path.{sym}
 use lib.Seq.{length-take-le}
-use Rattle.replay.proofs.write_first.Statement.{statement}
-use Rattle.replay.proofs.write_first.Tie as tie
+use Rattle.printer.proofs.write_first.Statement.{statement}
+use Rattle.printer.proofs.write_first.Tie as tie
 
 slice-aggregate-write-all : tie.Need-slice-aggregate-write-all
 slice-aggregate-write-all c =
