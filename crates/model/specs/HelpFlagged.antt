@@ -30,7 +30,7 @@ withBacklink r p = record { key = r .key; element = r .element; backlink = p; su
 unfoldable pub helpFlagged-1 : List Row → HelpFrame → Effect
 helpFlagged-1 rows f = goWriting (OneRow (f .del) (withBacklink (rowAt rows (f .del)) (f .prev))) (Help HelpFlagged2 f)
 
--- HelpFlagged, line 2 reads del's mark. Line 3: if it is 0, TryMark(del). Line 4: HelpMarked(prev, del).
+-- HelpFlagged, line 2 reads del's mark. Line 3: if it is 0, TryMark(del), and line 4 after it. Else line 4 at once: HelpMarked(prev, del).
 unfoldable pub helpFlagged-2 : List Row → HelpFrame → Effect
 helpFlagged-2 rows f = if succAt rows (f .del) .mark then go (Help HelpMarked1 f) else go (Help TryMark2 f)
 

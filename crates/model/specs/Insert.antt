@@ -1,4 +1,5 @@
--- Insert, figure 5. A definition stands before its use, so lines 2 and 20 come first, where SearchFrom has returned.
+-- Insert, figure 5. Lines 2 and 20, which go on where SearchFrom has returned, come first. A definition stands before its use, so line
+-- 15 comes before lines 10 and 11, and line 19 before line 17.
 use Prim.Native.Nat.{ℕ, zero, suc, _+_}
 use mathlib.Core.Bool.{Bool, true, false}
 use mathlib.Core.List.{List}

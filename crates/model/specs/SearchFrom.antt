@@ -37,7 +37,7 @@ strict (TryFlag11 target) = true
 unfoldable pub reaches : List Row → SearchFrame → ℕ → Bool
 reaches rows f next = if strict (f .caller) then keyBelow rows next (f .key) else keyAtMost rows next (f .key)
 
--- Line 10 returns (curr, next) to the caller.
+-- SearchFrom has returned (curr, next): each caller goes on at its next line, in figure 3 (Search), 4 (Delete) or 5 (Insert, TryFlag).
 unfoldable pub searchFromReturns : List Row → ℕ → ℕ → ℕ → ℕ → SearchCaller → Effect
 searchFromReturns rows key element curr next Search1 = search-2 rows key curr
 searchFromReturns rows key element curr next Insert1 = insert-2 rows key element curr next
@@ -45,6 +45,7 @@ searchFromReturns rows key element curr next (Insert19 new) = insert-20 rows key
 searchFromReturns rows key element curr next Delete1 = delete-2 rows key curr next
 searchFromReturns rows key element curr next (TryFlag11 target) = tryFlag-12 key target curr next
 
+-- Line 10 returns (curr, next) to the caller.
 unfoldable pub searchFrom-10 : List Row → SearchFrame → ℕ → Effect
 searchFrom-10 rows f next = searchFromReturns rows (f .key) (f .element) (f .curr) next (f .caller)
 

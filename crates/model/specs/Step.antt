@@ -77,7 +77,7 @@ applied c w worker e =
     then refuse NinthHelp c
     else accept (record { rows = written (c .rows) (e .write); workers = set (c .workers) w (workerAfter worker e) })
 
--- a step of a worker of a state that is known to be well formed
+-- a step of a worker of a state that is known to be well formed: refusals 3 and 5 are left
 unfoldable pub stepWorker : Catalogue → ℕ → Stepped
 stepWorker c w =
     let worker = workerAt (c .workers) w in
@@ -94,8 +94,8 @@ step c w =
 abbrev pub isRequest : ℕ → Bool
 isRequest code = if eqb code 0 then false else leb code 3
 
--- The private work before a request's first access: line 1 of Search, Insert or Delete calls SearchFrom from the head. The element
--- given with a request other than insert is stored as 0.
+-- The private work before a request's first access: line 1 of Search (figure 3), Insert (figure 5) or Delete (figure 4, with k − ε)
+-- calls SearchFrom from the head. The element given with a request other than insert is stored as 0.
 unfoldable pub firstLine : ℕ → ℕ → ℕ → Line
 firstLine code key element =
     if eqb code 1 then callSearchFrom key 0 head Search1

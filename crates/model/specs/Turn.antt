@@ -44,7 +44,8 @@ turnOf c w budget lent =
     else if idle (lent .line) then refuseTurn WorkerIdle c lent
     else turnFrom w budget 0 c
 
--- Turn, refusals 1, 11, 4, 3, with 0 steps and the record as it was lent.
+-- Turn, refusals 1, 11, 4, 3, with 0 steps and the record as it was lent. With 1 the state comes back as given; with 11, 4 and 3 it has
+-- the lent record in its place.
 unfoldable pub turn : Catalogue → ℕ → ℕ → Worker → Turned
 turn c w budget lent =
     if ltb 7 w then refuseTurn NoSuchWorker c lent else turnOf (withWorker c w lent) w budget lent

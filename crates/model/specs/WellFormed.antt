@@ -1,4 +1,4 @@
--- When a state is well formed: a test with one named part for each clause of document 01. That a busy worker's line belongs to its
+-- When a state is well formed: a test whose named parts say the clauses of document 01. That a busy worker's line belongs to its
 -- request, or to a routine which that request calls, is said by the types: each case of `Line` is one request's own, or names its caller.
 use Prim.Native.Nat.{ℕ, suc}
 use mathlib.Core.Bool.{Bool, true, false, not, _&&_}
