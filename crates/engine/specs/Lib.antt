@@ -1,4 +1,3 @@
-pub mod Slots
 pub mod Loops
 pub mod Steps
 pub mod Turns

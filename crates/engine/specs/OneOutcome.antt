@@ -1,8 +1,6 @@
 -- The contracts of the public functions determine their results: two outcomes that a contract allows are the same.
 use Prim.Native.Nat.{ℕ}
-use mathlib.Core.Bool.{Bool}
 use mathlib.Core.Path.{_≡_}
-use Rattle.model.specs.WellFormed.{wellFormed}
 use Rattle.model.specs.Step.{submit, step}
 use Rattle.model.specs.Turn.{turn}
 use Rattle.model.specs.declared.Worker.{Worker}
@@ -11,9 +9,6 @@ use Rattle.model.specs.declared.Stepped.{Stepped}
 use Rattle.model.specs.declared.Turned.{Turned}
 
 module _ (c : Catalogue) where
-  pub well-formed-once : (r q : Bool) → r ≡ wellFormed c → q ≡ wellFormed c → r ≡ q
-  well-formed-once r q one other = cc
-
   pub submit-once : (w code key element : ℕ) (r q : Stepped) → r ≡ submit c w code key element → q ≡ submit c w code key element → r ≡ q
   submit-once w code key element r q one other = cc
 

@@ -12,8 +12,8 @@ use Rattle.model.specs.declared.Effect.{Effect}
 use Rattle.model.specs.declared.Catalogue.{Catalogue}
 use Rattle.model.specs.declared.Stepped.{Stepped}
 use Rattle.model.specs.declared.Refusal.the-variants.{WorkerIdle, NinthHelp}
-use Rattle.engine.specs.Loops.{getD-any}
-use Rattle.engine.specs.Slots.{rowSlot}
+use Rattle.accesses.specs.Slots.{getD-any}
+use Rattle.accesses.specs.Slots.{rowSlot}
 
 -- what `row_or_free` gives for what stands at the slot of the row n is the row n
 pub row-fetched : (rows : List Row) (n i slot : ℕ) (row : Row) → i ≡ n → slot ≡ rowSlot i → (rowAt rows (rowSlot i) ≡ rowAt rows slot → row ≡ rowAt rows i) → rowAt rows n ≡ row

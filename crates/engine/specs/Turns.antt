@@ -14,7 +14,7 @@ use Rattle.model.specs.declared.Stepped.{Stepped}
 use Rattle.model.specs.declared.Turned.{Turned}
 use Rattle.model.specs.declared.Verdict.{Verdict}
 use Rattle.model.specs.declared.Verdict.the-variants.{Accepted}
-use Rattle.engine.specs.Loops.{getD-any}
+use Rattle.accesses.specs.Slots.{getD-any}
 
 pub turn-start : (w b : ℕ) (c : Catalogue) → turnFrom w b 0 c ≡ turnFrom w (b - 0) 0 c
 turn-start w b c = rw sub-zero

@@ -5,16 +5,14 @@ ghost use mathlib.Core.Path.{_≡_};
 ghost use mathlib.Core.Bool.{true, false};
 ghost use mathlib.Core.List.{List};
 ghost use lib.ListN.{length, set};
-ghost use Rattle.model.specs.State.{helpAt, idle, rowAt};
+ghost use Rattle.model.specs.State.{freshWorker, helpAt, idle, rowAt};
 ghost use Rattle.model.specs.Insert.{isFree, lowestFree};
 ghost use Rattle.model.specs.declared.Row.{Row};
 ghost use Rattle.lines.specs.Rows.{firstRow, secondRow, takesRow};
-ghost use Rattle.engine.specs.Slots.{freshWorker};
 ghost use Rattle.model.specs.Step.{effectOf, stacked, workerAfter, ninthHelp, stepWorker, step, submit};
-use crate::slots::row_after;
-use crate::slots::row_or_free;
-use crate::slots::row_slot;
-use crate::well::well_formed;
+use accesses::row_after;
+use accesses::row_or_free;
+use accesses::row_slot;
 use lines::act;
 use lines::first_line;
 use lines::first_row;
@@ -33,6 +31,7 @@ use model::Stepped;
 use model::Verdict;
 use model::Worker;
 use model::Write;
+use well_formed::well_formed;
 
 fn is_free(s: Standing) -> bool
     ensures { λ r. ⌜ r ≡ isFree s ⌝ }

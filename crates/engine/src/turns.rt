@@ -6,12 +6,12 @@ ghost use mathlib.Core.Path.{_≡_};
 ghost use Rattle.model.specs.Turn.{accepted, turnFrom, turn};
 use crate::steps::is_idle;
 use crate::steps::step_worker;
-use crate::well::well_formed;
 use model::Catalogue;
 use model::Refusal;
 use model::Turned;
 use model::Verdict;
 use model::Worker;
+use well_formed::well_formed;
 
 fn accepted(verdict: Verdict) -> bool
     ensures { λ r. ⌜ r ≡ accepted verdict ⌝ }

@@ -32,7 +32,7 @@ fn show_refused(name: &[u8], state: Catalogue) {
     show::field(b" step ", show::number(y));
     show::field(b" turn ", show::number(z));
     show::field(b" steps ", turned.steps);
-    if engine::well_formed(state) {
+    if well_formed::well_formed(state) {
         show::text(b" well formed");
     }
     if same::catalogue(a, state) {

@@ -80,10 +80,10 @@ module _ (rows : List Row) (good : GoodRows rows) (w count : ℕ) (none : count 
   tryFlag-10-sound f n =
       read-on _ (to-flag count none TryFlag9 _ (record { prev = good .numbers (f .prev) .backlink; target = n .target }))
 
-  pub tryFlag-12-sound : (key target prev del : ℕ) → isRow prev ≡ true → isRow target ≡ true
-      → Sound rows w noRowHeld count (tryFlag-12 key target prev del)
+  pub tryFlag-12-sound : (key prev del target : ℕ) → isRow prev ≡ true → isRow target ≡ true
+      → Sound rows w noRowHeld count (tryFlag-12 key prev del target)
   unfolding tryFlag-12
-  tryFlag-12-sound key target prev del p t =
+  tryFlag-12-sound key prev del target p t =
       if-known (Sound rows w noRowHeld count) (eqb del target)
       (λ _. read-on _ (to-try-flag count none key prev target p t))
       (λ _. read-on _ (to-idle count Absent))

@@ -122,10 +122,10 @@ module _ (rows : List Row) (good : GoodRows rows) (w count : ℕ) where
         (λ _. reads rows good w noRowHeld count _ (to-idle count Duplicate))
         (λ _. read-on (Insert4 next) (insertFrame key element prev) (record { line = n; prev = p }))
 
-    pub insert-20-sound : (key element new prev next : ℕ) → isRow new ≡ true → isRow prev ≡ true → isRow next ≡ true
-        → Sound rows w new count (insert-20 rows key element new prev next)
+    pub insert-20-sound : (key element prev next new : ℕ) → isRow new ≡ true → isRow prev ≡ true → isRow next ≡ true
+        → Sound rows w new count (insert-20 rows key element prev next new)
     unfolding insert-20 written
-    insert-20-sound key element new prev next isrow p n =
+    insert-20-sound key element prev next new isrow p n =
         if-known (Sound rows w new count) (hasKey rows prev key)
         (λ _. finishes new _ Duplicate (gives-up new freeRow isrow free-row-numbers (λ v held. free-not-held refl held)))
         (λ _. read-on (Insert6 next new) (insertFrame key element prev) (record { line = both-hold (isRow next) _ n isrow; prev = p }))

@@ -42,9 +42,9 @@ module _ (rows : List Row) (good : GoodRows rows) (w count : ℕ) (none : count 
   unfolding searchFromReturns
   return-sound key element curr next Search1 i j c = search-2-sound key curr
   return-sound key element curr next Insert1 i j c = insert-2-sound rows good w count none key element curr next i j
-  return-sound key element curr next (Insert19 new) i j c = insert-20-sound rows good w count none key element new curr next c i j
+  return-sound key element curr next (Insert19 new) i j c = insert-20-sound rows good w count none key element curr next new c i j
   return-sound key element curr next Delete1 i j c = delete-2-sound rows good w count none key curr next i j
-  return-sound key element curr next (TryFlag11 target) i j c = tryFlag-12-sound rows good w count none key target curr next i c
+  return-sound key element curr next (TryFlag11 target) i j c = tryFlag-12-sound rows good w count none key curr next target i c
 
   module _ (f : SearchFrame) (isrow : isRow (f .curr) ≡ true) (caller : searchCallerNumbers (f .caller) ≡ true) where
     abbrev SearchSound : Effect → Type 0

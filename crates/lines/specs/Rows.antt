@@ -5,9 +5,6 @@ use Rattle.model.specs.declared.Row.{Row}
 use Rattle.model.specs.declared.SearchFrame.{SearchFrame}
 use Rattle.model.specs.declared.SearchLine.{SearchLine}
 use Rattle.model.specs.declared.SearchLine.the-variants.{SearchFrom1, SearchFrom3NextMark, SearchFrom3CurrMark, SearchFrom3CurrRight, SearchFrom4, SearchFrom5HelpMarked1, SearchFrom5HelpMarked2, SearchFrom6, SearchFrom9}
-use Rattle.model.specs.declared.InsertFrame.{InsertFrame}
-use Rattle.model.specs.declared.InsertLine.{InsertLine}
-use Rattle.model.specs.declared.InsertLine.the-variants.{Insert4, Insert6, Insert11, Insert17, Insert18}
 use Rattle.model.specs.declared.HelpCaller.{HelpCaller}
 use Rattle.model.specs.declared.HelpCaller.the-variants.{Insert8, Insert16, Delete6}
 use Rattle.model.specs.declared.HelpFrame.{HelpFrame}
@@ -15,6 +12,7 @@ use Rattle.model.specs.declared.HelpLine.{HelpLine}
 use Rattle.model.specs.declared.HelpLine.the-variants.{HelpFlagged1, HelpFlagged2, TryMark2, TryMark3, TryMark6, HelpMarked1, HelpMarked2}
 use Rattle.model.specs.declared.Line.{Line}
 use Rattle.model.specs.declared.Line.the-variants.{Idle, Search, Insert, Flag, Help}
+use Rattle.updates.specs.Reads.{insertSecond, insertTakesRow}
 
 abbrev pub searchFirst : SearchFrame → SearchLine → ℕ
 searchFirst f SearchFrom1 = f .curr
@@ -37,22 +35,6 @@ searchSecond f (SearchFrom5HelpMarked1 next) first = f .curr
 searchSecond f (SearchFrom5HelpMarked2 next right) first = f .curr
 searchSecond f SearchFrom6 first = f .curr
 searchSecond f SearchFrom9 first = first .succ .right
-
--- the held row, where a line reads it
-abbrev pub insertSecond : InsertFrame → InsertLine → ℕ
-insertSecond f (Insert4 next) = f .prev
-insertSecond f (Insert6 next new) = f .prev
-insertSecond f (Insert11 next new) = new
-insertSecond f (Insert17 new) = f .prev
-insertSecond f (Insert18 new) = f .prev
-
--- the line that takes the lowest free row
-abbrev pub insertTakesRow : InsertLine → Bool
-insertTakesRow (Insert4 next) = true
-insertTakesRow (Insert6 next new) = false
-insertTakesRow (Insert11 next new) = false
-insertTakesRow (Insert17 new) = false
-insertTakesRow (Insert18 new) = false
 
 abbrev pub helpFirst : HelpFrame → HelpLine → ℕ
 helpFirst f HelpFlagged1 = f .del

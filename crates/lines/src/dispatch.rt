@@ -8,22 +8,22 @@ ghost use Rattle.model.specs.State.{rowAt};
 ghost use Rattle.model.specs.Insert.{lowestFree};
 ghost use Rattle.model.specs.Step.{lineEffect};
 ghost use Rattle.model.specs.declared.Row.{Row};
-ghost use Rattle.lines.specs.Rows.{firstRow, secondRow, insertTakesRow, takesRow};
-use crate::delete::flag_line;
-use crate::effects::go;
+ghost use Rattle.lines.specs.Rows.{firstRow, secondRow, takesRow};
 use crate::help_flagged::help_first;
 use crate::help_flagged::help_line;
 use crate::help_flagged::help_second;
-use crate::insert::insert_line;
-use crate::insert::insert_second;
 use crate::search_from::search_first;
 use crate::search_from::search_line;
 use crate::search_from::search_second;
+use accesses::go;
 use model::Effect;
-use model::InsertLine;
 use model::Line;
 use model::Pending;
 use model::Row;
+use updates::flag_line;
+use updates::insert_line;
+use updates::insert_second;
+use updates::insert_takes_row;
 
 // The row of the access.
 pub fn first_row(line: Line) -> u8
@@ -48,18 +48,6 @@ pub fn second_row(line: Line, first: Row) -> u8
         Line::Insert(l, f) => insert_second(f, l),
         Line::Flag(_, f) => f.prev,
         Line::Help(_, f) => help_second(f),
-    }
-}
-
-fn insert_takes_row(line: InsertLine) -> bool
-    ensures { λ r. ⌜ r ≡ insertTakesRow line ⌝ }
-{
-    match line {
-        InsertLine::Insert4 { next: _ } => true,
-        InsertLine::Insert6 { next: _, new: _ } => false,
-        InsertLine::Insert11 { next: _, new: _ } => false,
-        InsertLine::Insert17 { new: _ } => false,
-        InsertLine::Insert18 { new: _ } => false,
     }
 }
 

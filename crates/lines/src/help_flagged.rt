@@ -6,17 +6,14 @@ ghost use Rattle.model.specs.State.{rowAt};
 ghost use Rattle.model.specs.HelpFlagged.{withBacklink, helpFlagged-1, helpFlagged-2, tryMark-2, tryMark-3, tryMark-6, helpFlaggedReturns, helpFlagged-4-helpMarked-2, helpLine};
 ghost use Rattle.model.specs.declared.Row.{Row};
 ghost use Rattle.lines.specs.Rows.{returnRow, helpFirst, helpSecond};
-use crate::cas::cas;
-use crate::cas::flagged_only;
-use crate::cas::succ_of;
-use crate::delete::delete_7;
-use crate::effects::call_help_flagged;
-use crate::effects::go;
-use crate::effects::go_writing;
-use crate::help_marked::help_marked_1;
-use crate::help_marked::help_marked_2;
-use crate::insert::insert_19;
-use crate::insert::insert_frame;
+use accesses::call_help_flagged;
+use accesses::cas;
+use accesses::flagged_only;
+use accesses::go;
+use accesses::go_writing;
+use accesses::help_marked_1;
+use accesses::help_marked_2;
+use accesses::succ_of;
 use model::Effect;
 use model::HelpCaller;
 use model::HelpFrame;
@@ -27,6 +24,9 @@ use model::Pending;
 use model::Row;
 use model::Stack;
 use model::Write;
+use updates::delete_7;
+use updates::insert_19;
+use updates::insert_frame;
 
 fn with_backlink(row: Row, prev: u8) -> Row
     ensures { λ r. ⌜ r ≡ withBacklink row prev ⌝ }

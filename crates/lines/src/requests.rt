@@ -2,7 +2,7 @@
 
 ghost use mathlib.Core.Path.{_≡_};
 ghost use Rattle.model.specs.Step.{isRequest, firstLine};
-use crate::effects::call_search_from;
+use accesses::call_search_from;
 use model::Line;
 use model::SearchCaller;
 

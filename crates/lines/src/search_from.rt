@@ -7,18 +7,14 @@ ghost use Rattle.model.specs.State.{rowAt};
 ghost use Rattle.model.specs.SearchFrom.{strict, reaches, search-2, searchFromReturns, searchFrom-10, searchFrom-2, searchFrom-7, searchFrom-1, searchFrom-3-next-mark, searchFrom-3-curr-mark, searchFrom-3-curr-right, searchFrom-4, searchFrom-6, searchFrom-9, searchLine};
 ghost use Rattle.model.specs.declared.Row.{Row};
 ghost use Rattle.lines.specs.Rows.{searchFirst, searchSecond};
-use crate::delete::delete_2;
-use crate::delete::try_flag_12;
-use crate::effects::finish;
-use crate::effects::go;
-use crate::effects::go_writing;
-use crate::help_marked::help_marked_1;
-use crate::help_marked::help_marked_2;
-use crate::insert::insert_2;
-use crate::insert::insert_20;
-use crate::order::has_key;
-use crate::order::key_at_most;
-use crate::order::key_below;
+use accesses::finish;
+use accesses::go;
+use accesses::go_writing;
+use accesses::has_key;
+use accesses::help_marked_1;
+use accesses::help_marked_2;
+use accesses::key_at_most;
+use accesses::key_below;
 use model::Answer;
 use model::Effect;
 use model::Line;
@@ -26,6 +22,10 @@ use model::Row;
 use model::SearchCaller;
 use model::SearchFrame;
 use model::SearchLine;
+use updates::delete_2;
+use updates::insert_2;
+use updates::insert_20;
+use updates::try_flag_12;
 
 // Search, lines 2 to 5.
 fn search_2(key: u32, curr: u8, here: Row) -> Effect
@@ -76,9 +76,9 @@ fn search_from_returns(
     match caller {
         SearchCaller::Search1 => search_2(key, curr, here),
         SearchCaller::Insert1 => insert_2(key, element, curr, here, next),
-        SearchCaller::Insert19 { new } => insert_20(key, element, new, curr, here, next),
+        SearchCaller::Insert19 { new } => insert_20(key, element, curr, here, next, new),
         SearchCaller::Delete1 => delete_2(key, curr, next, ahead),
-        SearchCaller::TryFlag11 { target } => try_flag_12(key, target, curr, next),
+        SearchCaller::TryFlag11 { target } => try_flag_12(key, curr, next, target),
     }
 }
 

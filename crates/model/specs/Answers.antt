@@ -82,25 +82,25 @@ insert-2-answers : (rows : List Row) (k e prev next : ℕ) → NotFreshAfter (in
 unfolding insert-2
 insert-2-answers rows k e prev next = if-both NotFreshAfter (hasKey rows prev k) refl refl
 
-insert-20-answers : (rows : List Row) (k e new prev next : ℕ) → NotFreshAfter (insert-20 rows k e new prev next)
+insert-20-answers : (rows : List Row) (k e prev next new : ℕ) → NotFreshAfter (insert-20 rows k e prev next new)
 unfolding insert-20
-insert-20-answers rows k e new prev next = if-both NotFreshAfter (hasKey rows prev k) refl refl
+insert-20-answers rows k e prev next new = if-both NotFreshAfter (hasKey rows prev k) refl refl
 
 delete-2-answers : (rows : List Row) (k prev del : ℕ) → NotFreshAfter (delete-2 rows k prev del)
 unfolding delete-2
 delete-2-answers rows k prev del = if-both NotFreshAfter (hasKey rows del k) refl refl
 
-tryFlag-12-answers : (k target prev del : ℕ) → NotFreshAfter (tryFlag-12 k target prev del)
+tryFlag-12-answers : (k prev del target : ℕ) → NotFreshAfter (tryFlag-12 k prev del target)
 unfolding tryFlag-12
-tryFlag-12-answers k target prev del = if-both NotFreshAfter (eqb del target) refl refl
+tryFlag-12-answers k prev del target = if-both NotFreshAfter (eqb del target) refl refl
 
 searchFromReturns-answers : (rows : List Row) (k e curr next : ℕ) (caller : SearchCaller) → NotFreshAfter (searchFromReturns rows k e curr next caller)
 unfolding searchFromReturns
 searchFromReturns-answers rows k e curr next Search1 = search-2-answers rows k curr
 searchFromReturns-answers rows k e curr next Insert1 = insert-2-answers rows k e curr next
-searchFromReturns-answers rows k e curr next (Insert19 new) = insert-20-answers rows k e new curr next
+searchFromReturns-answers rows k e curr next (Insert19 new) = insert-20-answers rows k e curr next new
 searchFromReturns-answers rows k e curr next Delete1 = delete-2-answers rows k curr next
-searchFromReturns-answers rows k e curr next (TryFlag11 target) = tryFlag-12-answers k target curr next
+searchFromReturns-answers rows k e curr next (TryFlag11 target) = tryFlag-12-answers k curr next target
 
 -- ---- SearchFrom ----
 

@@ -69,7 +69,7 @@ tryFlag-10 rows f =
 -- TryFlag, lines 12 and 13, after line 11's SearchFrom returned (prev, del): another row than the target returns false with no row, and so
 -- Absent (Delete, lines 5 to 8). Else line 2 again.
 unfoldable pub tryFlag-12 : ℕ → ℕ → ℕ → ℕ → Effect
-tryFlag-12 key target prev del = if eqb del target then go (callTryFlag key prev target) else finish Absent
+tryFlag-12 key prev del target = if eqb del target then go (callTryFlag key prev target) else finish Absent
 
 -- Which definition belongs to which line.
 unfoldable pub flagLine : List Row → FlagFrame → FlagLine → Effect

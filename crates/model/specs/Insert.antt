@@ -35,7 +35,7 @@ insert-2 rows key element prev next =
 -- Lines 20 to 22, after line 19's SearchFrom returned (prev, next): if prev has the key, the held row becomes free and zero:
 -- Duplicate. Else line 6.
 unfoldable pub insert-20 : List Row → ℕ → ℕ → ℕ → ℕ → ℕ → Effect
-insert-20 rows key element new prev next =
+insert-20 rows key element prev next new =
     if hasKey rows prev key
     then goWriting (OneRow new freeRow) (Idle Duplicate)
     else go (Insert (Insert6 next new) (insertFrame key element prev))

@@ -41,9 +41,9 @@ reaches rows f next = if strict (f .caller) then keyBelow rows next (f .key) els
 unfoldable pub searchFromReturns : List Row → ℕ → ℕ → ℕ → ℕ → SearchCaller → Effect
 searchFromReturns rows key element curr next Search1 = search-2 rows key curr
 searchFromReturns rows key element curr next Insert1 = insert-2 rows key element curr next
-searchFromReturns rows key element curr next (Insert19 new) = insert-20 rows key element new curr next
+searchFromReturns rows key element curr next (Insert19 new) = insert-20 rows key element curr next new
 searchFromReturns rows key element curr next Delete1 = delete-2 rows key curr next
-searchFromReturns rows key element curr next (TryFlag11 target) = tryFlag-12 key target curr next
+searchFromReturns rows key element curr next (TryFlag11 target) = tryFlag-12 key curr next target
 
 -- Line 10 returns (curr, next) to the caller.
 unfoldable pub searchFrom-10 : List Row → SearchFrame → ℕ → Effect

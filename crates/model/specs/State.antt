@@ -37,8 +37,12 @@ noHelp = record { prev = 0; del = 0 }
 abbrev pub noHelps : List Pending
 noHelps = replicate 8 noHelp
 
+-- a worker at a line, all other registers zero
+abbrev pub freshWorker : Line → Worker
+freshWorker line = record { line = line; helps = noHelps; count = 0 }
+
 abbrev pub idleWorker : Answer → Worker
-idleWorker a = record { line = Idle a; helps = noHelps; count = 0 }
+idleWorker a = freshWorker (Idle a)
 
 -- head successor (1,0,0), tail successor (0,0,0), rows 0 and 1 linked, everything else zero, all workers idle with answer 0
 abbrev pub emptyCatalogue : Catalogue

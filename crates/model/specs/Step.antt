@@ -4,7 +4,7 @@ use mathlib.Core.Bool.{Bool, true, false, not}
 use mathlib.Core.List.{List}
 use lib.ListN.{set}
 use lib.Dec.{ltb, leb, eqb}
-use Rattle.model.specs.State.{if_then_else_, workerAt, helpAt, noHelp, noHelps, idle}
+use Rattle.model.specs.State.{if_then_else_, workerAt, helpAt, noHelp, freshWorker, idle}
 use Rattle.model.specs.Order.{head}
 use Rattle.model.specs.Effects.{go, callSearchFrom}
 use Rattle.model.specs.Insert.{insertLine}
@@ -62,7 +62,7 @@ stacked worker line Pop = record { line = line; helps = set (worker .helps) (wor
 unfoldable pub workerAfter : Worker → Effect → Worker
 workerAfter worker e =
     if idle (e .line)
-    then record { line = e .line; helps = noHelps; count = 0 }
+    then freshWorker (e .line)
     else stacked worker (e .line) (e .stack)
 
 -- the effect asks for a ninth pending help
@@ -112,4 +112,4 @@ submit c w code key element =
     else if not (wellFormed c) then refuse NotWellFormed c
     else if not (isRequest code) then refuse NoSuchRequest c
     else if not (idle (workerAt (c .workers) w .line)) then refuse WorkerBusy c
-    else accept (withWorker c w (record { line = firstLine code key element; helps = noHelps; count = 0 }))
+    else accept (withWorker c w (freshWorker (firstLine code key element)))

@@ -70,12 +70,12 @@ module _ (top : ℕ) (rowsAt : ℕ → List Row) (who : ℕ → ℕ) (sound : (i
       not-tail = low-not-tail top (rowsAt u) prev k k fits (omega arith) low
 
   -- TryFlag, lines 12 and 13.
-  pub tryFlag-12-tells : (k target prev del : ℕ) → suc k < top → markOf (rowAt (rowsAt t)) prev ≡ false
+  pub tryFlag-12-tells : (k prev del target : ℕ) → suc k < top → markOf (rowAt (rowsAt t)) prev ≡ false
       → RegularWithin (λ (i : ℕ). rowAt (rowsAt i)) t u prev del → AtMost top (rowAt (rowsAt u)) prev k → Above top (rowAt (rowsAt u)) del k
       → SaveOf (rowAt (rowsAt u)) target k → UnmarkedOrLacks (λ (i : ℕ). rowAt (rowsAt i)) t u k target
-      → Tells me rowsAt t u (delete k) 0 (tryFlag-12 k target prev del)
+      → Tells me rowsAt t u (delete k) 0 (tryFlag-12 k prev del target)
   unfolding tryFlag-12
-  tryFlag-12-tells k target prev del fits unmarked was low high save past =
+  tryFlag-12-tells k prev del target fits unmarked was low high save past =
       if-known (Tells me rowsAt t u (delete k) 0) (eqb del target)
       (λ _. record { next = record { operation-same = refl; past = (unmarked, past); removed-same = inl refl }; linking = inl tt })
       (λ other. record { next = (refl, absent (eqb-false del target other) past); linking = inl tt })

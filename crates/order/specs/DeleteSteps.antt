@@ -46,10 +46,10 @@ module _ (top me : ℕ) (rows : List Row) (sound : Structure top (rowAt rows)) (
       (λ _. read top me rows noRowHeld 0 hs _ refl refl tt)
 
   -- TryFlag, lines 12 and 13.
-  pub tryFlag-12-lawful : (k target prev del : ℕ) → suc k < top → hs ≡ [] → AtMost top (rowAt rows) prev k → SaveOf (rowAt rows) target k
-      → Lawful top me rows noRowHeld 0 hs (tryFlag-12 k target prev del)
+  pub tryFlag-12-lawful : (k prev del target : ℕ) → suc k < top → hs ≡ [] → AtMost top (rowAt rows) prev k → SaveOf (rowAt rows) target k
+      → Lawful top me rows noRowHeld 0 hs (tryFlag-12 k prev del target)
   unfolding tryFlag-12 heldRow
-  tryFlag-12-lawful k target prev del fits alone low save =
+  tryFlag-12-lawful k prev del target fits alone low save =
       if-known (Lawful top me rows noRowHeld 0 hs) (eqb del target)
       (λ _. read top me rows noRowHeld 0 hs _ refl refl (fits, (alone, (low, (save, tt)))))
       (λ _. read top me rows noRowHeld 0 hs _ refl refl tt)

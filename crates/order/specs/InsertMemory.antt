@@ -58,10 +58,10 @@ module _ (top : ℕ) (rowsAt : ℕ → List Row) (who : ℕ → ℕ) (sound : (i
       (λ _. record { next = record { operation-same = refl; past = unmarked; removed-same = inl refl }; linking = inl tt })
 
   -- Lines 20 to 22.
-  pub insert-20-tells : (k e new prev next : ℕ) → suc k < top → markOf (rowAt (rowsAt t)) prev ≡ false
-      → RegularWithin (λ (i : ℕ). rowAt (rowsAt i)) t u prev next → Tells me rowsAt t u (insert k e) 0 (insert-20 (rowsAt u) k e new prev next)
+  pub insert-20-tells : (k e prev next new : ℕ) → suc k < top → markOf (rowAt (rowsAt t)) prev ≡ false
+      → RegularWithin (λ (i : ℕ). rowAt (rowsAt i)) t u prev next → Tells me rowsAt t u (insert k e) 0 (insert-20 (rowsAt u) k e prev next new)
   unfolding insert-20
-  insert-20-tells k e new prev next fits unmarked was =
+  insert-20-tells k e prev next new fits unmarked was =
       if-known (Tells me rowsAt t u (insert k e) 0) (hasKey (rowsAt u) prev k)
       (λ same. record { next = (_, had-key k prev next fits was same); linking = inl (λ h. absurd (free-linked refl h)) })
       (λ _. record { next = record { operation-same = refl; past = unmarked; removed-same = inl refl }; linking = inl tt })

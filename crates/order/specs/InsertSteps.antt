@@ -100,11 +100,11 @@ module _ (top me : ℕ) (rows : List Row) (sound : Structure top (rowAt rows)) (
       m = private-written before after unflagged unmarked put
 
   -- Lines 20 to 22.
-  pub insert-20-lawful : (k e new prev next : ℕ) → suc k < top → hs ≡ [] → AtMost top (rowAt rows) prev (suc k)
+  pub insert-20-lawful : (k e prev next new : ℕ) → suc k < top → hs ≡ [] → AtMost top (rowAt rows) prev (suc k)
       → Above top (rowAt rows) next (suc k) → Holding me (rowAt rows) new k e
-      → Lawful top me rows new 0 hs (insert-20 rows k e new prev next)
+      → Lawful top me rows new 0 hs (insert-20 rows k e prev next new)
   unfolding insert-20 heldRow
-  insert-20-lawful k e new prev next fits alone low high holding =
+  insert-20-lawful k e prev next new fits alone low high holding =
       if-known (Lawful top me rows new 0 hs) (hasKey rows prev k)
       (λ _. privately new new freeRow (Idle Duplicate) (inr (holding .held)) (inl refl) refl refl (held-inside rows new me (holding .held))
       (λ h. let z : _≡_ {A = ℕ} 0 1 = cc in absurd (omega arith))

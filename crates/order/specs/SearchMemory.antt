@@ -64,11 +64,11 @@ module _ (top : ℕ) (rowsAt : ℕ → List Row) (who : ℕ → ℕ) (sound : (i
   returns-tell k e curr next Insert1 fits unmarked was low high known past =
       insert-2-tells top rowsAt who sound move t u since me k e curr next fits unmarked was
   returns-tell k e curr next (Insert19 new) fits unmarked was low high known past =
-      insert-20-tells top rowsAt who sound move t u since me k e new curr next fits unmarked was
+      insert-20-tells top rowsAt who sound move t u since me k e curr next new fits unmarked was
   returns-tell k e curr next Delete1 fits unmarked was low high known past =
       delete-2-tells top rowsAt who sound move t u since me k curr next fits unmarked was low high
   returns-tell k e curr next (TryFlag11 target) fits unmarked was low high (save, _) past =
-      tryFlag-12-tells top rowsAt who sound move t u since me k target curr next fits unmarked was low high save past
+      tryFlag-12-tells top rowsAt who sound move t u since me k curr next target fits unmarked was low high save past
 
   module _ (hs : List Pending) (f : SearchFrame) (unmarked : markOf (rowAt (rowsAt t)) (f .curr) ≡ false)
       (past : searchCallerPast (λ (i : ℕ). rowAt (rowsAt i)) t u (f .key) (f .caller))

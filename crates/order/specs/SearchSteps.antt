@@ -58,10 +58,10 @@ module _ (top me : ℕ) (rows : List Row) (sound : Structure top (rowAt rows)) (
   returns-lawful k e curr next Search1 fits alone low high known = search-2-lawful k curr
   returns-lawful k e curr next Insert1 fits alone low high known = insert-2-lawful top me rows sound hs k e curr next fits alone low high
   returns-lawful k e curr next (Insert19 new) fits alone low high (holding, _) =
-      insert-20-lawful top me rows sound hs k e new curr next fits alone low high holding
+      insert-20-lawful top me rows sound hs k e curr next new fits alone low high holding
   returns-lawful k e curr next Delete1 fits alone low high known = delete-2-lawful top me rows sound hs k curr next fits alone low high
   returns-lawful k e curr next (TryFlag11 target) fits alone low high (save, _) =
-      tryFlag-12-lawful top me rows sound hs k target curr next fits alone low save
+      tryFlag-12-lawful top me rows sound hs k curr next target fits alone low save
 
   module _ (f : SearchFrame) where
     abbrev LawfulSearch : Effect → Type 0

@@ -1,6 +1,6 @@
 -- `line_of` reads the worker's record, and past the last worker the one that `workerAt` reads there.
 use borrow.Author.Needs.{needs}
-use Rattle.engine.specs.Loops.{getD-any}
+use Rattle.accesses.specs.Slots.{getD-any}
 use Rattle.model.specs.declared.Answer.the-variants.{NoAnswer}
 use Rattle.model.specs.declared.Worker.{Worker}
 use Rattle.model.specs.State.{idleWorker}

@@ -1,0 +1,25 @@
+-- `help_line_numbers` meets its contract: each case tests the number that it carries.
+use borrow.Author.Needs.{needs}
+use Rattle.well_formed.proofs.help_line_numbers.Statement.{statement}
+use Rattle.well_formed.proofs.help_line_numbers.Tie as tie
+
+pub help-line-numbers-spec : {M : Type 1} → statement M
+help-line-numbers-spec =
+    tie.close
+    (tie.spec
+    (λ c. search needs)
+    (λ c. search needs)
+    (λ c. search needs)
+    (λ c. search needs)
+    (λ c κs. tt)
+    (λ c. search needs)
+    (λ c. search needs)
+    (λ c. search needs)
+    (λ c κs. tt)
+    (λ c. search needs)
+    (λ c. search needs)
+    (λ c. search needs)
+    (λ c. simp (← c .is-row .ensures, c .before .before .line .given .1) cc)
+    (λ c. search needs)
+    (λ c. search needs)
+    (λ c. simp (← c .is-row2 .ensures, c .before .before .line2 .given .1) cc))
