@@ -24,3 +24,4 @@ pub mod Choices
 pub mod Refusals
 pub mod Answers
 pub mod TurnCount
+pub mod RefusalOrder
