@@ -25,3 +25,6 @@ pub mod Refusals
 pub mod Answers
 pub mod TurnCount
 pub mod RefusalOrder
+pub mod RefusedCalls
+pub mod RefusedTurns
+pub mod RefusedFiles
