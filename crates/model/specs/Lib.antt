@@ -19,6 +19,7 @@ pub mod Empty
 pub mod Computed
 pub mod Worked
 pub mod CountTable
+pub mod HandMade
 pub mod Example
 pub mod Choices
 pub mod Refusals
