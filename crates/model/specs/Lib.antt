@@ -29,3 +29,4 @@ pub mod RefusalOrder
 pub mod RefusedCalls
 pub mod RefusedTurns
 pub mod RefusedFiles
+pub mod OneOutcome
