@@ -40,6 +40,14 @@ above n w = ltb-true n w
 pub not-above : (n w : ℕ) → ltb n w ≡ false → ¬ (n < w)
 not-above n w h p = omega (arith, ltb-false n w h)
 
+-- a list gives one verdict
+pub first-once : {grounds : List Ground} {v u : Verdict} → First grounds v → First grounds u → v ≡ u
+first-once no-ground no-ground = refl
+first-once (this-one p) (this-one q) = refl
+first-once (this-one p) (a-later fails _) = absurd (fails p)
+first-once (a-later fails _) (this-one q) = absurd (fails q)
+first-once (a-later _ one) (a-later _ other) = first-once one other
+
 -- ---- Submit ----
 
 steppedVerdict : Stepped → Verdict
