@@ -16,7 +16,7 @@ use Rattle.model.specs.declared.Standing.the-variants.{Free, Held, Linke
 use Rattle.model.specs.declared.Pending.{Pending}
 use Rattle.model.specs.declared.Worker.{Worker}
 use Rattle.model.specs.declared.Catalogue.{Catalogue}
-use Rattle.model.specs.declared.Answer.the-variants.{NoAnswer, Found, Duplicate}
+use Rattle.model.specs.declared.Answer.the-variants.{NoAnswer, Found, Added, Duplicate}
 use Rattle.model.specs.declared.Call.{Call}
 use Rattle.model.specs.declared.Call.the-variants.{Submit, Step}
 use Rattle.model.specs.declared.Stepped.{Stepped}
@@ -112,6 +112,19 @@ store-stays = record {
   worker = alone (Insert (Insert17 2) (insertFrame 5 50 0));
 }
 
+-- Lines 10 and 11 where prev is the held row itself: the store comes first, so that C&S finds what was stored.
+abbrev prev-is-held : Sample
+prev-is-held = record {
+  state =
+      worker0 (alone (Insert (Insert11 1 2) (insertFrame 5 50 2)))
+      (withRow 2 (row 5 50 0 (succOf 0 false false) (Held 0)) emptyCatalogue);
+  call = Step 0;
+  at = 2;
+  verdict = Accepted;
+  row = row 5 50 0 (succOf 2 false false) Linked;
+  worker = idleWorker Added;
+}
+
 -- Line 20, Duplicate: the held row becomes free and zero, and so do all other registers of the worker.
 abbrev row-given-back : Sample
 row-given-back = record {
@@ -188,7 +201,7 @@ submitted code element caller = record {
 
 pub samples : List Sample
 samples =
-    row-not-zero ∷ store-stays ∷ row-given-back ∷ backlink-written-over ∷ eighth-help ∷ ninth-help ∷ help-taken-up
+    row-not-zero ∷ store-stays ∷ prev-is-held ∷ row-given-back ∷ backlink-written-over ∷ eighth-help ∷ ninth-help ∷ help-taken-up
     ∷ submitted 1 0 Search1 ∷ submitted 2 9 Insert1 ∷ submitted 3 0 Delete1 ∷ []
 
 pub samples-right : map (λ (x : Sample). leftBy (x .at) (computed (x .state) (x .call))) samples
