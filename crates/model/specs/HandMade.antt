@@ -8,6 +8,7 @@ use lib.ListN.{set}
 use Rattle.model.specs.State.{rowAt, workerAt, succOf, freeRow, endRow, noHelps, idleWorker, emptyCatalogue}
 use Rattle.model.specs.Insert.{insertFrame}
 use Rattle.model.specs.WellFormed.{wellFormed, rowWell, workerWell, namedIsHeld, holderNames, heldRow, lineNumbers, allFrom}
+use Rattle.model.specs.Step.{withWorker}
 use Rattle.model.specs.Computed.{computed}
 use Rattle.model.specs.declared.Row.{Row}
 use Rattle.model.specs.declared.Succ.{Succ}
@@ -27,6 +28,7 @@ use Rattle.model.specs.declared.SearchCaller.{SearchCaller}
 use Rattle.model.specs.declared.SearchCaller.the-variants.{Search1, Insert1, Insert19, Delete1, TryFlag11}
 use Rattle.model.specs.declared.SearchLine.{SearchLine}
 use Rattle.model.specs.declared.SearchLine.the-variants.{SearchFrom1, SearchFrom4, SearchFrom5HelpMarked2, SearchFrom9}
+use Rattle.model.specs.declared.InsertLine.{InsertLine}
 use Rattle.model.specs.declared.InsertLine.the-variants.{Insert4, Insert6, Insert11, Insert17}
 use Rattle.model.specs.declared.FlagLine.the-variants.{TryFlag2}
 use Rattle.model.specs.declared.HelpCaller.the-variants.{Insert16, Delete6}
@@ -42,11 +44,15 @@ abbrev withRow : ℕ → Row → Catalogue → Catalogue
 withRow i r c = record { rows = set (c .rows) i r; workers = c .workers }
 
 abbrev worker0 : Worker → Catalogue → Catalogue
-worker0 k c = record { rows = c .rows; workers = set (c .workers) 0 k }
+worker0 k c = withWorker c 0 k
 
 abbrev row : ℕ → ℕ → ℕ → Succ → Standing → Row
 row key element backlink succ standing =
     record { key = key; element = element; backlink = backlink; succ = succ; standing = standing }
+
+-- the row of an insert of 5 with element 50 by worker 0, as line 4 leaves it
+abbrev held : Row
+held = row 5 50 0 (succOf 0 false false) (Held 0)
 
 abbrev pending : ℕ → ℕ → Pending
 pending prev del = record { prev = prev; del = del }
@@ -61,6 +67,13 @@ alone line = working line noHelps 0
 -- a request with key 5
 abbrev searching : SearchLine → ℕ → SearchCaller → Line
 searching line curr caller = Search line (record { key = 5; element = 0; curr = curr; caller = caller })
+
+-- an insert of 5 with element 50
+abbrev inserting : InsertLine → ℕ → Line
+inserting line prev = Insert line (insertFrame 5 50 prev)
+
+abbrev flagging : ℕ → ℕ → Line
+flagging prev target = Flag TryFlag2 (record { key = 5; prev = prev; target = target })
 
 -- a delete of row 2 that helps (prev, del)
 abbrev helping : HelpLine → ℕ → ℕ → Line
@@ -90,34 +103,34 @@ leftBy i s = left (s .verdict) (rowAt (s .state .rows) i) (workerAt (s .state .w
 -- Line 4 takes a free row that is not zero: all but key and element becomes zero.
 abbrev row-not-zero : Sample
 row-not-zero = record {
-  state = worker0 (alone (Insert (Insert4 1) (insertFrame 5 50 0))) (withRow 2 (row 9 9 3 (succOf 3 true false) Free) emptyCatalogue);
+  state = worker0 (alone (inserting (Insert4 1) 0)) (withRow 2 (row 9 9 3 (succOf 3 true false) Free) emptyCatalogue);
   call = Step 0;
   at = 2;
   verdict = Accepted;
-  row = row 5 50 0 (succOf 0 false false) (Held 0);
-  worker = alone (Insert (Insert6 1 2) (insertFrame 5 50 0));
+  row = held;
+  worker = alone (inserting (Insert6 1 2) 0);
 }
 
 -- Line 11 fails, as row 3 has come in between: line 10's store in the held row stays.
 abbrev store-stays : Sample
 store-stays = record {
   state =
-      worker0 (alone (Insert (Insert11 1 2) (insertFrame 5 50 0)))
+      worker0 (alone (inserting (Insert11 1 2) 0))
       (withRow 0 (endRow 3) (withRow 3 (row 4 40 0 (succOf 1 false false) Linked)
-      (withRow 2 (row 5 50 0 (succOf 0 false false) (Held 0)) emptyCatalogue)));
+      (withRow 2 held emptyCatalogue)));
   call = Step 0;
   at = 2;
   verdict = Accepted;
   row = row 5 50 0 (succOf 1 false false) (Held 0);
-  worker = alone (Insert (Insert17 2) (insertFrame 5 50 0));
+  worker = alone (inserting (Insert17 2) 0);
 }
 
 -- Lines 10 and 11 where prev is the held row itself: the store comes first, so that C&S finds what was stored.
 abbrev prev-is-held : Sample
 prev-is-held = record {
   state =
-      worker0 (alone (Insert (Insert11 1 2) (insertFrame 5 50 2)))
-      (withRow 2 (row 5 50 0 (succOf 0 false false) (Held 0)) emptyCatalogue);
+      worker0 (alone (inserting (Insert11 1 2) 2))
+      (withRow 2 held emptyCatalogue);
   call = Step 0;
   at = 2;
   verdict = Accepted;
@@ -227,10 +240,10 @@ broken =
     ∷ brokenWorker (alone (searching (SearchFrom5HelpMarked2 2 128) 0 Search1))
     ∷ brokenWorker (alone (searching SearchFrom1 0 (TryFlag11 128)))
     ∷ brokenWorker (alone (searching SearchFrom1 0 (Insert19 128)))
-    ∷ brokenWorker (alone (Insert (Insert4 128) (insertFrame 5 50 0)))
-    ∷ brokenWorker (alone (Insert (Insert4 1) (insertFrame 5 50 128)))
-    ∷ brokenWorker (alone (Flag TryFlag2 (record { key = 5; prev = 128; target = 2 })))
-    ∷ brokenWorker (alone (Flag TryFlag2 (record { key = 5; prev = 0; target = 128 })))
+    ∷ brokenWorker (alone (inserting (Insert4 128) 0))
+    ∷ brokenWorker (alone (inserting (Insert4 1) 128))
+    ∷ brokenWorker (alone (flagging 128 2))
+    ∷ brokenWorker (alone (flagging 0 128))
     ∷ brokenWorker (alone (helping TryMark6 128 2))
     ∷ brokenWorker (alone (helping TryMark6 0 128))
     ∷ brokenWorker (alone (helping (TryMark3 128) 0 2))
@@ -245,17 +258,18 @@ broken =
     ∷ brokenWorker (working (helping TryMark6 0 2) noHelps 9)
     ∷ brokenWorker (working (Idle NoAnswer) noHelps 1)
     ∷ brokenWorker (working (searching SearchFrom1 0 Search1) noHelps 1)
-    ∷ brokenWorker (working (Insert (Insert4 1) (insertFrame 5 50 0)) noHelps 1)
-    ∷ brokenWorker (working (Flag TryFlag2 (record { key = 5; prev = 0; target = 2 })) noHelps 1)
+    ∷ brokenWorker (working (inserting (Insert4 1) 0) noHelps 1)
+    ∷ brokenWorker (working (flagging 0 2) noHelps 1)
     -- held by no worker, by one that is idle, by one that names another row
     ∷ brokenRow 2 (row 5 50 0 (succOf 0 false false) (Held 8))
-    ∷ brokenRow 2 (row 5 50 0 (succOf 0 false false) (Held 0))
-    ∷ withRow 2 (row 5 50 0 (succOf 0 false false) (Held 0)) (withRow 3 (row 5 50 0 (succOf 0 false false) (Held 0)) (brokenWorker (alone (Insert (Insert6 1 3) (insertFrame 5 50 0)))))
+    ∷ brokenRow 2 held
+    ∷ withRow 2 held (withRow 3 held (brokenWorker (alone (inserting (Insert6 1 3) 0))))
     -- named past line 4, and free, or linked, or held by another
-    ∷ brokenWorker (alone (Insert (Insert6 1 2) (insertFrame 5 50 0)))
-    ∷ brokenWorker (alone (Insert (Insert17 0) (insertFrame 5 50 0)))
+    ∷ brokenWorker (alone (inserting (Insert6 1 2) 0))
+    ∷ brokenWorker (alone (inserting (Insert17 0) 0))
     ∷ brokenWorker (alone (searching SearchFrom1 0 (Insert19 2)))
     ∷ brokenWorker (alone (Help TryMark6 (record { key = 5; element = 0; prev = 0; del = 2; caller = Insert16 0 2 })))
+    ∷ withWorker (withRow 2 (row 5 50 0 (succOf 0 false false) (Held 1)) (brokenWorker (alone (inserting (Insert6 1 2) 0)))) 1 (alone (inserting (Insert6 1 2) 0))
     ∷ []
 
 pub broken-refused : map wellFormed broken ≡ map (λ _. false) broken
