@@ -56,6 +56,8 @@ samples =
     -- a right, and a backlink, of 128, off the walk
     ∷ sample (set emptyRows 5 (endRow 128)) notCounted
     ∷ sample (set emptyRows 127 (withBacklink freeRow 128)) notCounted
+    -- the same with a save on the walk: no save is reported
+    ∷ sample (set (second (endRow 1)) 127 (withBacklink freeRow 128)) notCounted
     ∷ []
 
 pub counts-right : map (λ (x : Sample). count (x .rows)) samples ≡ map (λ (x : Sample). x .count) samples

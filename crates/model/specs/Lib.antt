@@ -19,8 +19,14 @@ pub mod Empty
 pub mod Computed
 pub mod Worked
 pub mod CountTable
+pub mod HandMade
 pub mod Example
 pub mod Choices
 pub mod Refusals
 pub mod Answers
 pub mod TurnCount
+pub mod RefusalOrder
+pub mod RefusedCalls
+pub mod RefusedTurns
+pub mod RefusedFiles
+pub mod OneOutcome
