@@ -16,9 +16,10 @@ use Rattle.model.specs.declared.Line.{Line}
 use Rattle.model.specs.declared.Effect.{Effect}
 use Rattle.model.specs.declared.Stack.{Stack}
 use Rattle.model.specs.declared.Stack.the-variants.{Keep, Push, Pop}
-use Rattle.kept.specs.Tests.{clash, every, if-every, store-keeps}
 use Rattle.kept.specs.Facts.{HelpsWell}
 use Rattle.kept.specs.Sound.{StackFits}
+use Rattle.kept.specs.Conditions.{clash, every, if-every}
+use Rattle.kept.specs.Stores.{store-keeps}
 
 slots-stored : (helps : List Pending) (i : ℕ) (h : Pending) → allFrom pendingNumbers 0 helps ≡ true → pendingNumbers 0 h ≡ true
     → allFrom pendingNumbers 0 (set helps i h) ≡ true

@@ -1,4 +1,8 @@
-pub mod Tests
+pub mod Conditions
+pub mod Stores
+pub mod Standing
+pub mod FreeRows
+pub mod IdleLine
 pub mod Ways
 pub mod Sized
 pub mod Facts

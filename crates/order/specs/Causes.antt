@@ -6,13 +6,12 @@ use mathlib.Core.Path.{_≡_, refl, ap, sym, _∙_, subst}
 use mathlib.Core.Logic.{_≢_, _⊎_, inl, inr}
 use mathlib.Core.List.{List}
 use native.Mathlib.Omega.{arith}
-use Rattle.order.specs.Basics.{clash, held-linked}
 use Rattle.order.specs.Table.{rightOf, standingOf}
 use Rattle.order.specs.StructureFacts.{above-not-head, flagged-right-above}
 use Rattle.order.specs.Moves.{LinkMove, MarkMove}
 use Rattle.order.specs.PlainMap.{PlainMap}
-use Rattle.order.specs.Lawful.{noRowRemoved, removedRow}
-use Rattle.order.specs.Events.{StepTaken, effectIn}
+use Rattle.order.specs.Lawful.{noRowRemoved, idle-removes-none}
+use Rattle.order.specs.Events.{StepTaken}
 use Rattle.order.specs.Owners.{Owner}
 use Rattle.order.specs.Memory.{links-none}
 use Rattle.order.specs.Demand.{stateAt, lineAt, Accepts}
@@ -29,19 +28,13 @@ use Rattle.model.specs.declared.Standing.the-variants.{Linked}
 use Rattle.model.specs.declared.Worker.{Worker}
 use Rattle.model.specs.declared.Catalogue.{Catalogue}
 use Rattle.model.specs.declared.Answer.the-variants.{Added}
-use Rattle.model.specs.declared.Line.{Line}
-use Rattle.model.specs.declared.Line.the-variants.{Idle, Search, Insert, Flag, Help}
+use Rattle.model.specs.declared.Line.the-variants.{Idle}
 use Rattle.model.specs.declared.Call.{Call}
 use Rattle.model.specs.declared.Call.the-variants.{Step}
 use Rattle.order.specs.MapChanges.{Change, adds, removes}
-
--- an idle worker removes no row
-pub idle-removes-none : (l : Line) → idle l ≡ true → removedRow l ≡ noRowRemoved
-idle-removes-none (Idle a) h = refl
-idle-removes-none (Search l f) h = refl
-idle-removes-none (Insert l f) h = refl
-idle-removes-none (Flag l f) h = refl
-idle-removes-none (Help l f) h = absurd (clash h refl)
+use Rattle.kept.specs.Conditions.{clash}
+use Rattle.kept.specs.Standing.{held-not-linked}
+use Rattle.kept.specs.Ways.{effectIn}
 
 module _ {top : ℕ} {start : Catalogue} {calls : List Call} (ready : Ready top start calls) where
   pub data Cause (t : ℕ) : Type 0 where
@@ -62,7 +55,7 @@ module _ {top : ℕ} {start : Catalogue} {calls : List Call} (ready : Ready top 
         answers : (c : Current ready w t) → lineAt start calls (suc t) w ≡ Idle Added
         answers c =
             elim (step-tells ready (c .request) w (c .code) (c .key) (c .element) t (c .running) (taken .was-busy) .linking) [
-              | inl none ↦ absurd (held-linked (m .new-held) (links-none (stateAt start calls t .rows) _ none new new-linked))
+              | inl none ↦ absurd (held-not-linked (m .new-held) (links-none (stateAt start calls t .rows) _ none new new-linked))
               | inr is ↦ next-line ∙ is
             ]
 

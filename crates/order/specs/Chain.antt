@@ -8,8 +8,9 @@ use mathlib.Core.Logic.{_≢_, _⊎_, inl, inr}
 use native.Mathlib.Omega.{arith}
 use Rattle.order.specs.Table.{Table, rightOf, markOf, flagOf, rankOf, IsLinked, Regular}
 use Rattle.order.specs.Structure.{Structure}
-use Rattle.order.specs.Basics.{clash, Compared, less, equal, more, compared, bool-cases}
 use Rattle.order.specs.StructureFacts.{head-rank, below-not-tail, marked-not-tail, flagged-not-tail, flagged-right-above}
+use Rattle.order.specs.Compared.{Compared, less, equal, more, compared}
+use Rattle.kept.specs.Conditions.{clash, bool-cases}
 
 pub data OnChain (R : Table) : ℕ → Type 0 where
   at-head : OnChain R 0

@@ -8,12 +8,12 @@ use native.Mathlib.Decide.{ℕ-discrete}
 use Rattle.order.specs.Table.{Table, rightOf, markOf}
 use Rattle.order.specs.Structure.{Structure}
 use Rattle.order.specs.Moves.{Move, nothing, links, marks, unlinks, flags, backlinks, private}
-use Rattle.order.specs.Basics.{clash, bool-cases}
 use Rattle.order.specs.StructureFacts.{marked-not-tail}
 use Rattle.order.specs.PrivateKeeps.{linked-unchanged}
 use Rattle.order.specs.Kept.{move-keeps-structure, grow}
 use Rattle.order.specs.Chain.{OnChain, by-right, chain-linked, regular-on-chain, FlaggedFor, flagged-for, flagged-for-on-chain}
 use Rattle.order.specs.Hindsight.{Run, start, then, run-keeps-structure, run-grow, mark-of}
+use Rattle.kept.specs.Conditions.{clash, bool-cases}
 
 -- a flag for a marked row stays, but for the unlink of that row
 flag-stays : {top w : ℕ} {R R' : Table} {x : ℕ} → Structure top R → Move top w R R' → FlaggedFor R x → markOf R x ≡ true

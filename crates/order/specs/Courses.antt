@@ -7,12 +7,13 @@ use mathlib.Core.Logic.{_≢_, _⊎_, inl, inr}
 use mathlib.Core.List.{List}
 use native.Mathlib.Omega.{arith}
 use native.Mathlib.Decide.{ℕ-discrete}
-use Rattle.order.specs.Basics.{clash, Compared, less, equal, more, compared}
 use Rattle.order.specs.Lawful.{noRowRemoved}
 use Rattle.order.specs.OneRequest.{idle-not-busy, same-finish}
 use Rattle.order.specs.Demand.{stateAt, lineAt, Request, BusySince, Finished}
 use Rattle.order.specs.Time.{Ready, Happening, nothing-happens, submits, steps, happening, submit-taken}
 use Rattle.order.specs.Running.{removedAt, Running, Ends, begins, Continues, runs, ends-now, continues}
+use Rattle.order.specs.Compared.{Compared, less, equal, more, compared}
+use Rattle.kept.specs.Conditions.{clash}
 use Rattle.model.specs.State.{workerAt, idle}
 use Rattle.model.specs.Run.{run}
 use Rattle.model.specs.declared.Worker.{Worker}

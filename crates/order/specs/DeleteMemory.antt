@@ -12,12 +12,12 @@ use Rattle.order.specs.Table.{markOf, rankOf}
 use Rattle.order.specs.Structure.{Structure}
 use Rattle.order.specs.Moves.{Move}
 use Rattle.order.specs.Facts.{AtMost, Above, SaveOf, AllHold, facts}
-use Rattle.order.specs.Tests.{has-key}
 use Rattle.order.specs.Timeline.{RegularWithin, LacksWithin, marked-within, lacks-within, unmarked-or-lacks, lacks-past-other}
 use Rattle.order.specs.Lawful.{choose}
 use Rattle.order.specs.PlainMap.{delete}
 use Rattle.order.specs.Memory.{Tells, UnmarkedOrLacks}
 use Rattle.order.specs.InsertMemory.{low-not-tail}
+use Rattle.order.specs.LineConditions.{has-key}
 use Rattle.model.specs.State.{if_then_else_, rowAt, succOf}
 use Rattle.model.specs.Choices.{if-both, if-known}
 use Rattle.model.specs.Order.{hasKey}

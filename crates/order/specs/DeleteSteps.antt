@@ -1,20 +1,19 @@
 -- The lines of Delete and TryFlag are lawful: the flag of line 4 is the one move among them, and claims the target.
-use Prim.Native.Nat.{ℕ, suc, _≤_, _<_}
+use Prim.Native.Nat.{ℕ, suc, _<_}
 use mathlib.Core.Bool.{Bool, true, false}
 use mathlib.Core.Path.{_≡_, refl, ap, sym, _∙_}
 use mathlib.Core.List.{List, []}
 use native.Mathlib.Omega.{arith}
 use lib.Dec.{eqb}
-use borrow.Author.Tests.{eqb-true}
-use Rattle.order.specs.Table.{rightOf, flagOf, standingOf}
 use Rattle.order.specs.Structure.{Structure, flagged-for}
 use Rattle.order.specs.Moves.{flags, FlagMove}
 use Rattle.order.specs.Facts.{AtMost, Above, SaveOf, AllHold, facts, called-alone}
 use Rattle.order.specs.StableFacts.{save-survives}
-use Rattle.order.specs.Tests.{has-key, same-succ}
-use Rattle.order.specs.Writes.{one-written, linked-inside, flag-written}
+use Rattle.order.specs.Writes.{one-written, flag-written}
 use Rattle.order.specs.Lawful.{Lawful, claims, choose, read}
 use Rattle.order.specs.InsertSteps.{not-tail, back-low}
+use Rattle.order.specs.LineConditions.{has-key, same-succ}
+use Rattle.kept.specs.Standing.{linked-inside}
 use Rattle.model.specs.State.{if_then_else_, rowAt, succOf}
 use Rattle.model.specs.Choices.{if-known}
 use Rattle.model.specs.Order.{hasKey}

@@ -8,7 +8,6 @@ use mathlib.Core.List.{List, [], _∷_, List·Memᴰ·not-nil, List·Memᴰ·cas
 use native.Mathlib.Omega.{arith}
 use lib.ListN.{length}
 use borrow.Author.Tests.{lt-leb}
-use Rattle.order.specs.Basics.{clash}
 use Rattle.order.specs.Table.{Table, rightOf, markOf, flagOf, rankOf}
 use Rattle.order.specs.Structure.{Helpable, flagged-for, already-marked}
 use Rattle.order.specs.StructureFacts.{above-not-head, flagged-right-above}
@@ -16,10 +15,12 @@ use Rattle.order.specs.Facts.{Helping}
 use Rattle.order.specs.Distinct.{Among, Distinct, no-number, one-more, distinct-below}
 use Rattle.order.specs.Stack.{newest-length}
 use Rattle.order.specs.Lawful.{Chained, Pushable, noRowRemoved}
-use Rattle.order.specs.Events.{tableOf, lineOf, stackIn, effectIn}
+use Rattle.order.specs.Events.{tableOf, stackIn}
 use Rattle.order.specs.EveryLine.{effect-lawful}
 use Rattle.order.specs.Owners.{Owner, removedBy}
 use Rattle.order.specs.Reached.{Reached, removes-inside}
+use Rattle.kept.specs.Conditions.{clash}
+use Rattle.kept.specs.Ways.{lineOf, effectIn}
 use Rattle.model.specs.State.{workerAt, idle}
 use Rattle.model.specs.Step.{ninthHelp}
 use Rattle.model.specs.declared.Catalogue.{Catalogue}
@@ -130,7 +131,7 @@ module _ {top : ℕ} {c : Catalogue} (r : Reached top c) where
     pushable : Pushable (tableOf c) (stackIn c w) (effectIn c w .stack)
     pushable =
         let sound = r .sound in
-        effect-lawful top w (c .rows) (workerAt (c .workers) w) (sound .structure) (sound .row-count) busy (sound .known w) .pushable
+        effect-lawful top w (c .rows) (workerAt (c .workers) w) (sound .structure) (sound .sizes .rows) busy (sound .known w) .pushable
 
     pub pushed-live : (h : Pending) → effectIn c w .stack ≡ Push h → AllLive (tableOf c) (h ∷ stackIn c w)
     pushed-live h push =
@@ -145,7 +146,7 @@ module _ {top : ℕ} {c : Catalogue} (r : Reached top c) where
         subst (Pushable (tableOf c) (stackIn c w)) push pushable in
         let os = owners (h ∷ stackIn c w) (h .del) (now .0) (now .1) in
         let few = distinct-below 8 (os .workers) (os .distinct)
-        (λ v m. omega (arith, removes-inside (c .workers) v (os .removes v m), r .sound .worker-count)) in
+        (λ v m. omega (arith, removes-inside (c .workers) v (os .removes v m), r .sound .sizes .workers)) in
         omega (arith, few, os .many, newest-length (workerAt (c .workers) w .helps) (workerAt (c .workers) w .count))
 
     pub no-ninth : ninthHelp (workerAt (c .workers) w .count) (effectIn c w .stack) ≡ false

@@ -10,8 +10,9 @@ use Rattle.model.specs.declared.Row.{Row}
 use Rattle.model.specs.State.{freeRow, rowAt, emptyCatalogue}
 use Rattle.order.specs.Table.{Table, rightOf, markOf, flagOf, backOf, rankOf, IsLinked, Regular}
 use Rattle.order.specs.Structure.{Structure}
-use Rattle.order.specs.Basics.{clash, free-linked}
 use Rattle.order.specs.StructureFacts.{head-rank, tail-rank}
+use Rattle.kept.specs.Conditions.{clash}
+use Rattle.kept.specs.Standing.{free-not-linked}
 
 abbrev pub emptyTable : Table
 emptyTable = rowAt (emptyCatalogue .rows)
@@ -43,7 +44,7 @@ pub data End (x : ℕ) : Type 0 where
 pub empty-ends : (x : ℕ) → IsLinked emptyTable x → End x
 empty-ends zero h = is-head refl
 empty-ends (suc zero) h = is-tail refl
-empty-ends (suc (suc x)) h = absurd (free-linked (ap (λ (r : Row). r .standing) (empty-save x)) h)
+empty-ends (suc (suc x)) h = absurd (free-not-linked (ap (λ (r : Row). r .standing) (empty-save x)) h)
 
 module _ (top : ℕ) (positive : 1 ≤ top) where
   at-head : rankOf top emptyTable 0 ≡ 0

@@ -14,6 +14,7 @@ use Rattle.order.specs.MapOfTable.{setting-same, setting-other}
 use Rattle.order.specs.Asking.{added-holds}
 use Rattle.order.specs.Demand.{stateAt, lineAt, Accepts, Request, Finished, Removing, Placed, InOrder, no-entry, one-entry, next-entry, Entry, is-finished, is-removing, Replays, at-end, answers, is-full, removes, Ordered, FullExactly}
 use Rattle.order.specs.OneRequest.{same-request, same-finish, idle-not-busy}
+use Rattle.kept.specs.Conditions.{contradiction}
 use Rattle.model.specs.State.{rowAt, idle}
 use Rattle.model.specs.declared.Catalogue.{Catalogue}
 use Rattle.model.specs.declared.Answer.{Answer}
@@ -45,9 +46,9 @@ module _ (m : PlainMap) (k e : ℕ) (is : m k ≡ some e) where
   not-absent o same h = go o (ap (answerHolding o) (sym is ∙ ap m same) ∙ h)
     where
       go : (p : Operation) → answerHolding p (some e) ≡ Absent → ⊥
-      go (search j) q = let z : _≡_ {A = ℕ} 0 1 = cc in omega arith
-      go (insert j x) q = let z : _≡_ {A = ℕ} 0 1 = cc in omega arith
-      go (delete j) q = let z : _≡_ {A = ℕ} 0 1 = cc in omega arith
+      go (search j) q = contradiction (cc)
+      go (insert j x) q = contradiction (cc)
+      go (delete j) q = contradiction (cc)
 
 module _ (start : Catalogue) (calls : List Call) where
   -- no request of the list deletes key k
@@ -98,8 +99,7 @@ module _ (start : Catalogue) (calls : List Call) where
         let q = same-request s w 2 k e v code key element request (subst (λ (i : ℕ). Request start calls i v code key element) same r) in
         let y : Finished start calls s w g Full = subst (λ (u : ℕ). Finished start calls s u g Full) (q .worker) (subst (λ (i : ℕ). Finished start calls i v g Full) same x) in
         let z = same-finish s w g f Full Added y finished .1 in
-        let apart : _≡_ {A = ℕ} 0 1 = cc in
-        absurd (omega arith)
+        contradiction (cc)
 
     -- and no removal
     add-not-removal : {A : Type 0} (p : Placed start calls) (v : ℕ) → p .request ≡ s → Removing start calls (p .request) v → A
@@ -170,8 +170,7 @@ module _ (start : Catalogue) (calls : List Call) where
           go (yes same) further =
               let s = same-absent u code' key' element' g Full (subst (λ (i : ℕ). Request start calls i u code' key' element') same r)
               (subst (λ (i : ℕ). Finished start calls i u g Full) same x) .0 in
-              let apart : _≡_ {A = ℕ} 0 1 = cc in
-              omega arith
+              contradiction (cc)
           go (no other) further = further (asks-later asks other)
       until {m} (removes {p = p} {ps = ps} u r x ans rest) is asks only =
           go (ℕ-discrete (p .request) q) (λ c j. until rest c j (λ y i. only y (List·Memᴰ·tail i)))
@@ -264,5 +263,5 @@ module _ (start : Catalogue) (calls : List Call) where
       → (j : ℕ) × (j ≤ i) × (rowAt (stateAt start calls j .rows) row .standing ≡ Linked)
   full-not-early full i w row accepts answered low high free = elim (full i w accepts .0 answered .1 row low high) [
     | inl linked ↦ linked
-    | inr (v, held, named) ↦ let z : _≡_ {A = ℕ} 0 1 = cc in absurd (omega arith)
+    | inr (v, held, named) ↦ contradiction (cc)
   ]

@@ -8,12 +8,11 @@ use mathlib.Core.List.{List}
 use native.Mathlib.Omega.{arith}
 use native.Mathlib.Decide.{ℕ-discrete}
 use lib.ListN.{length}
-use Rattle.order.specs.Basics.{clash, bool-cases}
 use Rattle.order.specs.Table.{Table, markOf, flagOf, rightOf}
 use Rattle.order.specs.StructureFacts.{above-not-head}
 use Rattle.order.specs.PlainMap.{operation}
 use Rattle.order.specs.Lawful.{Removal, goes-on, claims, ends, noRowRemoved, removedRow}
-use Rattle.order.specs.Events.{StepTaken, effectIn}
+use Rattle.order.specs.Events.{StepTaken}
 use Rattle.order.specs.SoundKept.{step-lawful}
 use Rattle.order.specs.Asking.{Agrees}
 use Rattle.order.specs.Demand.{stateAt, Accepts, Request, Finished, Removing}
@@ -22,9 +21,11 @@ use Rattle.order.specs.Running.{TableAt, removedAt, Running, Ends, begin
 use Rattle.order.specs.OneRequest.{same-call, same-request}
 use Rattle.order.specs.Courses.{Course, under-way, over, course, ended-not-running, removes-on}
 use Rattle.order.specs.MapAt.{mapAt}
-use Rattle.order.specs.Moments.{reading, Kind, reads-only, is-full, adds as adds-kind, removes as removes-kind, kind}
+use Rattle.order.specs.Moments.{reading, Kind, reads-only, is-full, kind, adds as adds-kind, removes as removes-kind}
 use Rattle.order.specs.Removals.{MarkedAt, removal-marked}
 use Rattle.order.specs.MapChanges.{Change, adds, removes, change-unfinished}
+use Rattle.kept.specs.Conditions.{clash, bool-cases, contradiction}
+use Rattle.kept.specs.Ways.{effectIn}
 use Rattle.model.specs.State.{rowAt, workerAt, idle}
 use Rattle.model.specs.Answers.{line-after}
 use Rattle.model.specs.declared.Row.{Row}
@@ -206,7 +207,6 @@ module _ {top : ℕ} {start : Catalogue} {calls : List Call} (ready : Ready top 
           (begins ready s w code key element r .busy (suc s) (omega arith) (omega arith)))
       go (steps v a taken) = none-submitted s (λ w code key element r.
           let e = same-call s (Submit w code key element) (Step v) r a in
-          let z : _≡_ {A = ℕ} 0 1 = cc in
-          omega arith)
+          contradiction (cc))
       go (submits w code key element a taken) =
           request-fate s w code key element a (course ready s w code key element a (length calls) (a .inside))

@@ -9,8 +9,8 @@ use native.Mathlib.Decide.{ℕ-discrete}
 use Rattle.order.specs.Table.{Table, rightOf, markOf, flagOf, rankOf, Regular}
 use Rattle.order.specs.Structure.{Structure}
 use Rattle.order.specs.Moves.{FlagMove}
-use Rattle.order.specs.Basics.{clash}
 use Rattle.order.specs.Unchanged.{same-rank, same-regular-after, same-regular-before, same-below-tail, same-back-linked, same-back-below, same-right-linked, same-right-above, same-same, same-gap}
+use Rattle.kept.specs.Conditions.{clash}
 
 module _ {top : ℕ} {R R' : Table} {prev target : ℕ} (sound : Structure top R) (move : FlagMove R R' prev target) where
   rank= : (x : ℕ) → rankOf top R' x ≡ rankOf top R x

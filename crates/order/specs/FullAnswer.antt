@@ -8,16 +8,16 @@ use mathlib.Core.List.{List}
 use native.Mathlib.Omega.{arith}
 use lib.Dec.{ltb, eqb}
 use lib.ListN.{set}
-use borrow.Author.Tests.{ltb-true, ltb-false}
-use Rattle.order.specs.Basics.{clash, free-linked}
-use Rattle.order.specs.FreeRows.{NoneFree, LowestFree, found, none, lowest-free}
-use Rattle.order.specs.Events.{effectIn}
 use Rattle.order.specs.Timeline.{grown-later}
 use Rattle.order.specs.Demand.{stateAt, lineAt, HasBeenLinked, IsHeld, NoRowLeft, LooksForRow, FullExactly}
 use Rattle.order.specs.Time.{Ready, sound-at, structure-at, mover-at, move-at, step-taken}
+use Rattle.kept.specs.Conditions.{clash, contradiction}
+use Rattle.kept.specs.Standing.{free-not-linked}
+use Rattle.kept.specs.FreeRows.{NoneFree, none-left, if-none-left}
+use Rattle.kept.specs.Ways.{effectIn}
 use Rattle.model.specs.State.{rowAt, workerAt, helpAt, idle, succOf}
 use Rattle.model.specs.Answers.{line-after}
-use Rattle.model.specs.Choices.{if-both}
+use Rattle.model.specs.Choices.{if-both, if-known}
 use Rattle.model.specs.Order.{hasKey}
 use Rattle.model.specs.Cas.{sameSucc, flaggedOnly, succAt, withSucc}
 use Rattle.model.specs.SearchFrom.{searchLine, searchFrom-1, searchFrom-2, searchFrom-3-next-mark, searchFrom-3-curr-mark, searchFrom-3-curr-right, searchFrom-4, searchFrom-6, searchFrom-7, searchFrom-9, searchFrom-10, searchFromReturns, reaches, search-2}
@@ -148,21 +148,14 @@ record FindsNone (rows : List Row) (l : Line) : Type 0 where
 
 line-4-full : (rows : List Row) (me : ℕ) (f : InsertFrame) (next : ℕ) → full (insert-4 rows me f next .line) ≡ true → NoneFree rows 2 128
 unfolding insert-4
-line-4-full rows me f next h = go (ltb (lowestFree rows) 128) refl (lowest-free rows)
-  where
-    go : (b : Bool) → ltb (lowestFree rows) 128 ≡ b → LowestFree rows 2 128 (lowestFree rows) → NoneFree rows 2 128
-    go true e q = absurd (clash h (rw e))
-    go false e (none last rest) = rest
-    go false e (found free low high rest) = absurd (omega (arith, ltb-false (lowestFree rows) 128 e))
+line-4-full rows me f next =
+    if-known (λ (e : Effect). full (e .line) ≡ true → NoneFree rows 2 128) (ltb (lowestFree rows) 128)
+    (λ _ h. absurd (clash h refl))
+    (λ no-row _. none-left rows no-row)
 
 full-line-4 : (rows : List Row) (me : ℕ) (f : InsertFrame) (next : ℕ) → NoneFree rows 2 128 → insert-4 rows me f next .line ≡ Idle Full
 unfolding insert-4
-full-line-4 rows me f next none-free = go (ltb (lowestFree rows) 128) refl (lowest-free rows)
-  where
-    go : (b : Bool) → ltb (lowestFree rows) 128 ≡ b → LowestFree rows 2 128 (lowestFree rows) → insert-4 rows me f next .line ≡ Idle Full
-    go false e q = rw (e, insert-4) refl
-    go true e (found free low high rest) = absurd (none-free (lowestFree rows) low high free)
-    go true e (none last rest) = absurd (omega (arith, ltb-true (lowestFree rows) 128 e))
+full-line-4 rows me f next none-free = rw (if-none-left rows none-free)
 
 insert-finds-none : (rows : List Row) (me : ℕ) (f : InsertFrame) (l : InsertLine) → full (insertLine rows me f l .line) ≡ true
     → FindsNone rows (Insert l f)
@@ -219,8 +212,8 @@ module _ {top : ℕ} {start : Catalogue} {calls : List Call} (ready : Ready top 
     where
       go : HasBeenLinked start calls i r ⊎ IsHeld start calls i r → ⊥
       go (inl (j, early, linked)) =
-          free-linked free (grown-later (λ (t : ℕ). rowAt (stateAt start calls t .rows)) (mover-at ready) (structure-at ready) (move-at ready) j i r early linked .linked)
-      go (inr (v, held, named)) = let z : _≡_ {A = ℕ} 0 1 = cc in omega arith
+          free-not-linked free (grown-later (λ (t : ℕ). rowAt (stateAt start calls t .rows)) (mover-at ready) (structure-at ready) (move-at ready) j i r early linked .linked)
+      go (inr (v, held, named)) = contradiction (cc)
 
   pub full-exactly : FullExactly start calls
   unfolding effectOf lineEffect insertLine

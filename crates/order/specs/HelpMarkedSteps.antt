@@ -5,16 +5,17 @@ use mathlib.Core.Path.{_≡_, refl, ap, sym, _∙_}
 use mathlib.Core.Logic.{_≢_}
 use mathlib.Core.List.{List}
 use native.Mathlib.Decide.{ℕ-discrete}
-use Rattle.order.specs.Basics.{clash}
 use Rattle.order.specs.Table.{Table, rightOf, flagOf}
 use Rattle.order.specs.Structure.{Structure, flagged-for}
 use Rattle.order.specs.StructureFacts.{flagged-unique, help-unique}
 use Rattle.order.specs.Moves.{UnlinkMove}
 use Rattle.order.specs.Stack.{stackAfter}
 use Rattle.order.specs.Facts.{Frozen, Helping, AllHold, facts}
-use Rattle.order.specs.Tests.{same-succ, same-succ-refl}
-use Rattle.order.specs.Writes.{one-written, linked-inside, unlink-written}
+use Rattle.order.specs.Writes.{one-written, unlink-written}
 use Rattle.order.specs.Lawful.{Lawful, removedRow, noRowRemoved, ends, with-removal, Pushable, read-stacking, shared, unlink-shared}
+use Rattle.order.specs.LineConditions.{same-succ, same-succ-refl}
+use Rattle.kept.specs.Conditions.{clash}
+use Rattle.kept.specs.Standing.{linked-inside}
 use Rattle.model.specs.State.{rowAt, succOf}
 use Rattle.model.specs.Choices.{if-known}
 use Rattle.model.specs.Cas.{sameSucc, succAt, withSucc, cas}
@@ -24,10 +25,9 @@ use Rattle.model.specs.WellFormed.{heldRow}
 use Rattle.model.specs.declared.Row.{Row}
 use Rattle.model.specs.declared.Succ.{Succ}
 use Rattle.model.specs.declared.Pending.{Pending}
-use Rattle.model.specs.declared.Effect.{Effect}
 use Rattle.model.specs.declared.Line.{Line}
 use Rattle.model.specs.declared.Write.{Write}
-use Rattle.model.specs.declared.Write.the-variants.{NoRow, OneRow}
+use Rattle.model.specs.declared.Write.the-variants.{OneRow}
 use Rattle.model.specs.declared.Stack.{Stack}
 
 -- the table after prev has swung past del to right

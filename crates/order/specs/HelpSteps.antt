@@ -1,26 +1,25 @@
 -- The lines inside HelpFlagged are lawful: the backlink, the mark and the swing are moves, and a pending help is one that has to be given.
 use Prim.Native.Nat.{ℕ, suc, _<_}
 use mathlib.Core.Bool.{true, false}
-use mathlib.Core.Path.{_≡_, refl, ap, sym, _∙_, subst}
-use mathlib.Core.Logic.{_≢_}
+use mathlib.Core.Path.{refl, ap, sym, _∙_, subst}
 use mathlib.Core.List.{List, [], _∷_}
 use native.Mathlib.Omega.{arith}
-use lib.Dec.{eqb}
 use borrow.Author.Tests.{eq-eqb, ne-eqb}
-use Rattle.order.specs.Basics.{clash}
 use Rattle.order.specs.Structure.{Structure, flagged-for}
 use Rattle.order.specs.StructureFacts.{help-del-linked}
 use Rattle.order.specs.Moves.{BacklinkMove}
 use Rattle.order.specs.Stack.{Newest, nothing-pending, pending}
 use Rattle.order.specs.Facts.{Helping, Frozen, AllHold, facts, helpCallerFacts, pendingFacts}
 use Rattle.order.specs.StableFacts.{help-survives, facts-survive}
-use Rattle.order.specs.Tests.{same-succ, flagged-only}
-use Rattle.order.specs.Writes.{one-written, linked-inside, mark-written, backlink-written}
+use Rattle.order.specs.Writes.{one-written, mark-written, backlink-written}
 use Rattle.order.specs.Lawful.{Lawful, removedInHelp, goes-on, SharedMove, chained, read, read-stacking, shared, mark-shared, backlink-shared}
 use Rattle.order.specs.HelpMarkedSteps.{help-marked-lawful, help-ends-lawful}
-use Rattle.model.specs.State.{if_then_else_, rowAt, succOf}
+use Rattle.order.specs.LineConditions.{same-succ, flagged-only}
+use Rattle.kept.specs.Conditions.{clash}
+use Rattle.kept.specs.Standing.{linked-inside}
+use Rattle.model.specs.State.{rowAt, succOf}
 use Rattle.model.specs.Choices.{if-known}
-use Rattle.model.specs.Cas.{sameSucc, flaggedOnly, succAt, withSucc, cas}
+use Rattle.model.specs.Cas.{sameSucc, flaggedOnly, succAt, cas}
 use Rattle.model.specs.Effects.{goWriting, callHelpFlagged}
 use Rattle.model.specs.Delete.{delete-7}
 use Rattle.model.specs.HelpMarked.{helpMarked-1, helpMarked-2}

@@ -8,10 +8,10 @@ use native.Mathlib.Decide.{ℕ-discrete}
 use Rattle.order.specs.Table.{Table, rightOf, markOf, backOf, IsLinked, Regular}
 use Rattle.order.specs.Structure.{Structure}
 use Rattle.order.specs.Moves.{MarkMove, Move, nothing, links, marks, unlinks, flags, backlinks, private}
-use Rattle.order.specs.Basics.{clash, bool-cases}
 use Rattle.order.specs.StructureFacts.{unflagged-right-unmarked}
 use Rattle.order.specs.MarkKeeps.{del-regular, del-not-tail}
 use Rattle.order.specs.Kept.{move-keeps-structure, Grown, grown-refl, grown-trans, grow}
+use Rattle.kept.specs.Conditions.{clash, bool-cases}
 
 -- a run of moves, of any workers, from table R
 pub data Run (top : ℕ) (R : Table) : Table → Type 0 where

@@ -8,17 +8,17 @@ use mathlib.Core.List.{List}
 use native.Mathlib.Omega.{arith}
 use lib.Dec.{ltb}
 use lib.ListN.{set}
-use Rattle.order.specs.Basics.{held-linked, free-linked}
 use Rattle.order.specs.Table.{markOf, rankOf}
 use Rattle.order.specs.Structure.{Structure}
 use Rattle.order.specs.StructureFacts.{tail-rank}
 use Rattle.order.specs.Moves.{Move}
 use Rattle.order.specs.Facts.{AtMost, AllHold, facts}
-use Rattle.order.specs.Tests.{has-key}
 use Rattle.order.specs.Timeline.{RegularWithin, HasWithin, marked-within, has-within}
-use Rattle.order.specs.Writes.{two-written, linked-inside, held-inside}
+use Rattle.order.specs.Writes.{two-written}
 use Rattle.order.specs.PlainMap.{insert}
 use Rattle.order.specs.Memory.{Tells, LinksRow}
+use Rattle.order.specs.LineConditions.{has-key}
+use Rattle.kept.specs.Standing.{held-not-linked, free-not-linked, linked-inside, held-inside}
 use Rattle.model.specs.State.{rowAt, succOf}
 use Rattle.model.specs.Choices.{if-both, if-known}
 use Rattle.model.specs.Order.{hasKey}
@@ -63,7 +63,7 @@ module _ (top : ℕ) (rowsAt : ℕ → List Row) (who : ℕ → ℕ) (sound : (i
   unfolding insert-20
   insert-20-tells k e new prev next fits unmarked was =
       if-known (Tells me rowsAt t u (insert k e) 0) (hasKey (rowsAt u) prev k)
-      (λ same. record { next = (_, had-key k prev next fits was same); linking = inl (λ h. absurd (free-linked refl h)) })
+      (λ same. record { next = (_, had-key k prev next fits was same); linking = inl (λ h. absurd (free-not-linked refl h)) })
       (λ _. record { next = record { operation-same = refl; past = unmarked; removed-same = inl refl }; linking = inl tt })
 
   module _ (hs : List Pending) (f : InsertFrame) (unmarked : markOf (rowAt (rowsAt t)) (f .prev) ≡ false) where
@@ -74,7 +74,7 @@ module _ (top : ℕ) (rowsAt : ℕ → List Row) (who : ℕ → ℕ) (sound : (i
         if-both (Tells me rowsAt t u (insert (f .key) (f .element)) 0) (ltb (lowestFree (rowsAt u)) 128)
         (record {
           next = record { operation-same = refl; past = unmarked; removed-same = inl refl };
-          linking = inl (λ h. absurd (held-linked refl h));
+          linking = inl (λ h. absurd (held-not-linked refl h));
         })
         (record { next = tt; linking = inl tt })
 
@@ -103,7 +103,7 @@ module _ (top : ℕ) (rowsAt : ℕ → List Row) (who : ℕ → ℕ) (sound : (i
         stored = withSucc (rowAt (rowsAt u) new) (succOf next false false)
 
         differ : new ≢ f .prev
-        differ e = held-linked (holding .held) (cc (low .linked))
+        differ e = held-not-linked (holding .held) (cc (low .linked))
 
         linked : LinksRow me (rowAt (rowsAt u))
             (rowAt (written (rowsAt u) (TwoRows new (linkedRow stored) (f .prev)

@@ -1,4 +1,4 @@
-pub mod Basics
+pub mod Compared
 pub mod Table
 pub mod Structure
 pub mod StructureFacts
@@ -29,10 +29,9 @@ pub mod ChainTimeline
 pub mod Stack
 pub mod Facts
 pub mod StableFacts
-pub mod Tests
+pub mod LineConditions
 pub mod Writes
 pub mod Lawful
-pub mod FreeRows
 pub mod InsertSteps
 pub mod DeleteSteps
 pub mod HelpMarkedSteps

@@ -4,7 +4,6 @@ use Prim.Native.Nat.{ℕ, suc, _≤_}
 use mathlib.Core.Bool.{false}
 use mathlib.Core.Path.{_≡_, refl}
 use mathlib.Core.List.{List}
-use Rattle.order.specs.Basics.{clash}
 use Rattle.order.specs.Structure.{Structure}
 use Rattle.order.specs.Moves.{Move}
 use Rattle.order.specs.Stack.{Newest, newest, stackOf}
@@ -15,6 +14,7 @@ use Rattle.order.specs.SearchMemory.{search-tells}
 use Rattle.order.specs.InsertMemory.{insert-tells}
 use Rattle.order.specs.DeleteMemory.{flag-tells}
 use Rattle.order.specs.HelpMemory.{help-tells}
+use Rattle.kept.specs.Conditions.{clash}
 use Rattle.model.specs.State.{rowAt, idle}
 use Rattle.model.specs.Step.{lineEffect, effectOf}
 use Rattle.model.specs.declared.Row.{Row}

@@ -10,12 +10,11 @@ use lib.Dec.{eqb}
 use lib.ListN.{length, getD, replicate, length-append, List·getD-append}
 use lib.Seq.{take-append-le, getD-append-add}
 use borrow.Author.Tests.{not-true}
-use Rattle.order.specs.Basics.{clash}
-use Rattle.order.specs.Tests.{and-true}
 use Rattle.order.specs.Demand.{stateAt, lineAt, Accepts, Request, Finished, DemandThree}
 use Rattle.order.specs.OneRequest.{any-default}
 use Rattle.order.specs.OrderTheorem.{demand-three}
 use Rattle.order.specs.SavesFound.{stored-save-found}
+use Rattle.kept.specs.Conditions.{clash, both}
 use Rattle.model.specs.State.{workerAt, idle, emptyCatalogue}
 use Rattle.model.specs.Computed.{computed}
 use Rattle.model.specs.Run.{run}
@@ -42,7 +41,7 @@ through-each : (p : ℕ → Bool) (i n : ℕ) → through p i n ≡ true → (j 
 unfolding through
 through-each p i zero h j low high = absurd (omega arith)
 through-each p i (suc n) h j low high =
-    let both = and-true (p i) (through p (suc i) n) h in
+    let both = both (p i) (through p (suc i) n) h in
     elim (ℕ-discrete j i) [
       | yes e ↦ ap p e ∙ both .0
       | no e ↦ through-each p (suc i) n (both .1) j (omega arith) (omega arith)

@@ -7,7 +7,6 @@ use mathlib.Core.Logic.{_⊎_, inl, inr}
 use mathlib.Core.List.{List}
 use native.Mathlib.Omega.{arith}
 use native.Mathlib.Decide.{ℕ-discrete}
-use Rattle.order.specs.Basics.{held-linked, free-linked}
 use Rattle.order.specs.Table.{Table, markOf, standingOf}
 use Rattle.order.specs.Moves.{Move, nothing, links, marks, unlinks, flags, backlinks, private, LinkMove, MarkMove}
 use Rattle.order.specs.Hindsight.{mark-of}
@@ -19,6 +18,7 @@ use Rattle.order.specs.Asking.{Agrees, added-agrees, removed-agrees, map
 use Rattle.order.specs.Memory.{LinksRow}
 use Rattle.order.specs.Demand.{stateAt}
 use Rattle.order.specs.Time.{Ready, sound-at, structure-at, move-at}
+use Rattle.kept.specs.Standing.{held-not-linked, free-not-linked}
 use Rattle.model.specs.State.{rowAt}
 use Rattle.model.specs.declared.Row.{Row}
 use Rattle.model.specs.declared.Standing.the-variants.{Free, Held, Linked}
@@ -33,23 +33,23 @@ pub record LinkOf (top w : ℕ) (R R' : Table) (x : ℕ) : Type 0 where
   pub move : LinkMove top w R R' prev x next
 
 pub link-of : {top w v : ℕ} {R R' : Table} {x : ℕ} → Move top w R R' → standingOf R x ≡ Held v → standingOf R' x ≡ Linked → LinkOf top w R R' x
-link-of (nothing e) h k = absurd (held-linked h (cc))
+link-of (nothing e) h k = absurd (held-not-linked h (cc))
 link-of {top} {w} {R = R} {R' = R'} {x = x} (links {prev = prev} {new = new} {next = next} m) h k = elim (ℕ-discrete x new) [
   | yes e ↦ record { prev = prev; next = next; move = subst (λ (y : ℕ). LinkMove top w R R' prev y next) (sym e) m }
-  | no e ↦ absurd (held-linked h (sym (m .standing-other x e) ∙ k))
+  | no e ↦ absurd (held-not-linked h (sym (m .standing-other x e) ∙ k))
 ]
-link-of {x = x} (marks m) h k = absurd (held-linked h (sym (m .standing= x) ∙ k))
-link-of {x = x} (unlinks m) h k = absurd (held-linked h (sym (m .standing= x) ∙ k))
-link-of {x = x} (flags m) h k = absurd (held-linked h (sym (m .standing= x) ∙ k))
-link-of {x = x} (backlinks m) h k = absurd (held-linked h (sym (m .standing= x) ∙ k))
+link-of {x = x} (marks m) h k = absurd (held-not-linked h (sym (m .standing= x) ∙ k))
+link-of {x = x} (unlinks m) h k = absurd (held-not-linked h (sym (m .standing= x) ∙ k))
+link-of {x = x} (flags m) h k = absurd (held-not-linked h (sym (m .standing= x) ∙ k))
+link-of {x = x} (backlinks m) h k = absurd (held-not-linked h (sym (m .standing= x) ∙ k))
 link-of {w = w} {R' = R'} {x = x} (private {new = new} m) h k = elim (ℕ-discrete x new) [
   | yes e ↦ absurd (mine e (m .after))
-  | no e ↦ absurd (held-linked h (ap (λ (r : Row). r .standing) (sym (m .other x e)) ∙ k))
+  | no e ↦ absurd (held-not-linked h (ap (λ (r : Row). r .standing) (sym (m .other x e)) ∙ k))
 ]
   where
     mine : x ≡ new → (standingOf R' new ≡ Free) ⊎ (standingOf R' new ≡ Held w) → ⊥
-    mine e (inl free) = free-linked free (ap (standingOf R') (sym e) ∙ k)
-    mine e (inr held) = held-linked held (ap (standingOf R') (sym e) ∙ k)
+    mine e (inl free) = free-not-linked free (ap (standingOf R') (sym e) ∙ k)
+    mine e (inr held) = held-not-linked held (ap (standingOf R') (sym e) ∙ k)
 
 -- what a move does to the map
 pub data Turn (top w : ℕ) (R R' : Table) (M : PlainMap) : PlainMap → Type 0 where
@@ -73,7 +73,7 @@ module _ {top : ℕ} {start : Catalogue} {calls : List Call} (ready : Ready top 
 
   pub is-map-at : (i : ℕ) → IsMapOf (rowAt (stateAt start calls i .rows)) (mapAt i)
   unfolding mapAt
-  is-map-at i = chain-map-is-map (stateAt start calls i .rows) (omega (arith, sound-at ready i .row-count)) (structure-at ready i)
+  is-map-at i = chain-map-is-map (stateAt start calls i .rows) (omega (arith, sound-at ready i .sizes .rows)) (structure-at ready i)
 
   pub same-rows-map : (i j : ℕ) → stateAt start calls i .rows ≡ stateAt start calls j .rows → mapAt i ≡ mapAt j
   unfolding mapAt

@@ -8,7 +8,6 @@ use mathlib.Core.List.{List}
 use native.Mathlib.Omega.{arith}
 use native.Mathlib.Decide.{ℕ-discrete, decLe}
 use lib.ListN.{length}
-use Rattle.order.specs.Basics.{clash, Compared, less, equal, more, compared}
 use Rattle.order.specs.Table.{Table, markOf}
 use Rattle.order.specs.Hindsight.{mark-of}
 use Rattle.order.specs.Timeline.{grown-later}
@@ -22,8 +21,10 @@ use Rattle.order.specs.Running.{TableAt, removedAt, Running, Ends}
 use Rattle.order.specs.OneRequest.{same-stepper, same-request, same-finish}
 use Rattle.order.specs.Courses.{ended-not-running, Course, under-way, over, course, alone, removes-on}
 use Rattle.order.specs.MapAt.{mapAt, link-of, mark-agrees}
-use Rattle.order.specs.Moments.{reading, Kind, reads-only, is-full, adds as adds-kind, removes as removes-kind, kind}
+use Rattle.order.specs.Moments.{reading, Kind, reads-only, is-full, kind, adds as adds-kind, removes as removes-kind}
 use Rattle.order.specs.Removals.{removes-save, removal-answer, removing}
+use Rattle.order.specs.Compared.{Compared, less, equal, more, compared}
+use Rattle.kept.specs.Conditions.{clash, contradiction}
 use Rattle.model.specs.State.{rowAt}
 use Rattle.model.specs.declared.Row.{Row}
 use Rattle.model.specs.declared.Catalogue.{Catalogue}
@@ -33,7 +34,7 @@ use Rattle.model.specs.declared.Call.{Call}
 use Rattle.model.specs.declared.Call.the-variants.{Step}
 
 not-removed : {A : Type 0} {a : Answer} {e : ℕ} → a ≡ Added → a ≡ Removed e → A
-not-removed h k = let z : _≡_ {A = ℕ} 0 1 = cc in absurd (omega arith)
+not-removed h k = contradiction (cc)
 
 module _ {top : ℕ} {start : Catalogue} {calls : List Call} (ready : Ready top start calls) where
   -- the request submitted at s changes the map at T
@@ -117,7 +118,7 @@ module _ {top : ℕ} {start : Catalogue} {calls : List Call} (ready : Ready top 
       go : Kind ready s w T (operation code key element) Added
           → Agrees (mapAt ready T) (operation code key element) Added (mapAt ready (suc T))
       go (reads-only h r) = absurd (clash h refl)
-      go (is-full h) = let z : _≡_ {A = ℕ} 0 1 = cc in absurd (omega arith)
+      go (is-full h) = contradiction (cc)
       go (adds-kind h agrees) = agrees
       go (removes-kind x h r) = not-removed refl h
 
@@ -203,11 +204,11 @@ module _ {top : ℕ} {start : Catalogue} {calls : List Call} (ready : Ready top 
       let e'' = by-request (λ v c k x. Ends ready s v c k x T Added) s w code key element w' code' key' element'
       (e .running .request) (e' .running .request) e' in
       let same = same-finish s w f T a Added (e .finished) (e'' .finished) .1 in
-      (ap reading same, λ h. let z : _≡_ {A = ℕ} 0 1 = cc in omega arith)
+      (ap reading same, λ h. contradiction (cc))
   change-ends s T w code key element f a (removes w' code' key' element' y r is some unmarked marked) e =
       let e' = by-request (λ v c k x. Ends ready s v c k x f a) s w' code' key' element' w code key element (r .request) (e .running .request) e in
       let same = ends-removed s w' code' key' element' T f y a r is some e' .1 in
-      (ap reading same, λ h. let z : _≡_ {A = ℕ} 0 1 = cc in omega arith)
+      (ap reading same, λ h. contradiction (cc))
 
   -- a request that changes the map and is unfinished at the end is a delete whose row is marked
   pub change-unfinished : (s T w code key element : ℕ) → Change s T → Running ready s w code key element (length calls)

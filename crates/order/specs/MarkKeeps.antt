@@ -9,9 +9,10 @@ use native.Mathlib.Decide.{ℕ-discrete}
 use Rattle.order.specs.Table.{Table, rightOf, markOf, flagOf, backOf, rankOf, Regular}
 use Rattle.order.specs.Structure.{Structure}
 use Rattle.order.specs.Moves.{MarkMove}
-use Rattle.order.specs.Basics.{clash, Compared, less, equal, more, compared}
 use Rattle.order.specs.StructureFacts.{above-not-head, flagged-not-tail, flagged-right-linked, flagged-right-above, marked-not-tail, unflagged-right-unmarked, predecessor-unique}
 use Rattle.order.specs.Unchanged.{same-rank, same-below-tail, same-back-linked, same-back-below, same-right-linked, same-right-above, same-same, same-gap}
+use Rattle.order.specs.Compared.{Compared, less, equal, more, compared}
+use Rattle.kept.specs.Conditions.{clash}
 
 module _ {top : ℕ} {R R' : Table} {prev del : ℕ} (sound : Structure top R) (move : MarkMove R R' prev del) where
   rank= : (x : ℕ) → rankOf top R' x ≡ rankOf top R x

@@ -13,6 +13,7 @@ use Rattle.order.specs.Table.{Table, markOf, standingOf, IsLinked}
 use Rattle.order.specs.Timeline.{LacksWithin, HasWithin, RegularWithin}
 use Rattle.order.specs.PlainMap.{Operation, search, insert, delete}
 use Rattle.order.specs.Lawful.{noRowRemoved, removedRow}
+use Rattle.kept.specs.Conditions.{contradiction}
 use Rattle.model.specs.State.{rowAt, freeRow}
 use Rattle.model.specs.Choices.{if-both}
 use Rattle.model.specs.Cas.{succAt, sameSucc, cas}
@@ -211,8 +212,7 @@ links-none rows (OneRow i r) none x h = go (ℕ-discrete x i) (decLt i (length r
         ap (λ (y : ℕ). standingOf (rowAt rows) y) e ∙ none (ap (λ (s : Row). s .standing) (sym here) ∙ h)
     go (yes e) (no outside) =
         let past = List·getD-eq-default (set rows i r) freeRow {n = x} (omega (arith, length-set rows i r)) in
-        let z : _≡_ {A = ℕ} 0 1 = cc in
-        absurd (omega arith)
+        contradiction (cc)
 
 -- ---- What is asked of the effect of a line ----
 

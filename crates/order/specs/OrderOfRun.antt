@@ -10,7 +10,6 @@ use native.Mathlib.Decide.{ℕ-discrete}
 use lib.Dec.{eqb}
 use lib.ListN.{length}
 use borrow.Author.Tests.{eqb-true, eq-eqb}
-use Rattle.order.specs.Basics.{clash}
 use Rattle.order.specs.Demand.{Placed, InOrder, no-entry, Entry, is-finished, is-removing, Moment}
 use Rattle.order.specs.Time.{Ready}
 use Rattle.order.specs.Distinct.{Among}
@@ -18,6 +17,7 @@ use Rattle.order.specs.MapChanges.{Change, adds, removes, change-once, c
 use Rattle.order.specs.Fates.{ReadsAt, NoPlace, Fate, reads-at, changes-at, no-place, fate}
 use Rattle.order.specs.Picked.{picked, in-picked, picked-passes, picked-distinct}
 use Rattle.order.specs.Placing.{in-first, in-second, in-either, Once, nobody, once-append, placedAt, in-placed, of-placed, placed-once, placed-in-order}
+use Rattle.kept.specs.Conditions.{clash}
 use Rattle.model.specs.declared.Catalogue.{Catalogue}
 use Rattle.model.specs.declared.Call.{Call}
 

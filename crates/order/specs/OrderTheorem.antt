@@ -2,30 +2,30 @@
 -- no flag is without an owner, with the map of its chain.
 use Prim.Native.Nat.{ℕ, _+_, _≤_, _<_}
 use mathlib.Core.Bool.{true, false}
-use mathlib.Core.Path.{_≡_, refl, ap, sym, _∙_, subst}
+use mathlib.Core.Path.{_≡_, refl, sym, _∙_, subst}
 use mathlib.Core.List.{List, List·Memᴰ}
 use mathlib.Core.Option.{Option, none, some}
 use native.Mathlib.Omega.{arith}
 use lib.ListN.{length}
-use Rattle.order.specs.Basics.{clash}
 use Rattle.order.specs.Table.{flagOf}
 use Rattle.order.specs.Structure.{Structure}
 use Rattle.order.specs.TableMap.{Has, shown-has, has-shown}
 use Rattle.order.specs.Walk.{walk-meets-chain}
 use Rattle.order.specs.PlainMap.{PlainMap, emptyMap}
 use Rattle.order.specs.MapOfTable.{Entry, IsMapOf, empty-map, map-has}
-use Rattle.order.specs.Sound.{Sound, empty-sound, all-fresh}
-use Rattle.order.specs.SoundKept.{KeysFit, topOver, keys-fit, top-positive}
-use Rattle.order.specs.Owners.{Owned, empty-owned}
+use Rattle.order.specs.Sound.{Sound, empty-sound}
+use Rattle.order.specs.SoundKept.{KeysFit}
+use Rattle.order.specs.Owners.{Owned}
 use Rattle.order.specs.Reached.{empty-ready}
 use Rattle.order.specs.Demand.{stateAt, Placed, Ordered, FullExactly, UnmarkedSave, HoldsTheChain, DemandThree}
 use Rattle.order.specs.Time.{Ready, state-end, sound-at, owned-at, structure-at}
 use Rattle.order.specs.MapAt.{mapAt, is-map-at, is-the-map}
-use Rattle.order.specs.Causes.{idle-removes-none}
 use Rattle.order.specs.Placing.{once-at}
 use Rattle.order.specs.OrderOfRun.{orderFrom, HasPlace, has-place, stands, in-order-from, order-sorted, order-once, entry-of, moment-of}
 use Rattle.order.specs.Replay.{order-replays}
 use Rattle.order.specs.FullAnswer.{full-exactly}
+use Rattle.order.specs.Lawful.{idle-removes-none}
+use Rattle.kept.specs.Conditions.{clash, contradiction}
 use Rattle.model.specs.State.{rowAt, workerAt, idle, emptyCatalogue}
 use Rattle.model.specs.Run.{run}
 use Rattle.model.specs.declared.Row.{Row}
@@ -56,7 +56,7 @@ module _ {top : ℕ} (rows : List Row) (small : length rows ≤ 128) (sound : St
   map-holds-chain m is key element = (λ q. saved key element (go (m key) refl (is .entry key) q), λ u. map-has sound is key element (was-saved key element u))
     where
       go : (o : Option ℕ) → m key ≡ o → Entry (rowAt rows) key o → m key ≡ some element → Has (rowAt rows) key element
-      go none e h q = let z : _≡_ {A = ℕ} 0 1 = cc in absurd (omega arith)
+      go none e h q = contradiction (cc)
       go (some x) e h q =
           let same : x ≡ element = cc in
           subst (Has (rowAt rows) key) same h
@@ -71,8 +71,7 @@ module _ {top : ℕ} (rows : List Row) (small : length rows ≤ 128) (sound : St
         none = λ row regular save key.
             let has : Has (rowAt rows) k (rowAt rows row .element) = record { row = row; regular = regular; save = save; key = key; element = refl } in
             let held = holds k (rowAt rows row .element) .1 (saved k (rowAt rows row .element) has) in
-            let z : _≡_ {A = ℕ} 0 1 = cc in
-            omega arith;
+            contradiction (cc);
       }
 
 -- ---- Any run that may begin ----
@@ -114,14 +113,14 @@ demand-from start calls before ready holds = record {
   after = mapAt ready (length calls);
   ordered = subst (λ (m : PlainMap). Ordered start calls m (mapAt ready (length calls))) (sym first) (run-ordered ready);
   ends = subst (λ (c : Catalogue). HoldsTheChain (mapAt ready (length calls)) (c .rows)) (state-end start calls)
-      (map-holds-chain (stateAt start calls (length calls) .rows) (omega (arith, sound-at ready (length calls) .row-count)) (structure-at ready (length calls))
+      (map-holds-chain (stateAt start calls (length calls) .rows) (omega (arith, sound-at ready (length calls) .sizes .rows)) (structure-at ready (length calls))
       (mapAt ready (length calls)) (is-map-at ready (length calls)));
   full = full-exactly ready;
 }
   where
     first : before ≡ mapAt ready 0
     first = is-the-map ready 0 before
-        (chain-held-is-map (start .rows) (omega (arith, ready .sound .row-count)) (ready .sound .structure) before holds)
+        (chain-held-is-map (start .rows) (omega (arith, ready .sound .sizes .rows)) (ready .sound .structure) before holds)
 
 -- ---- States at rest ----
 

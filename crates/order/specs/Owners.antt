@@ -6,7 +6,6 @@ use mathlib.Core.Logic.{_≢_}
 use mathlib.Core.List.{List, [], _∷_}
 use native.Mathlib.Decide.{ℕ-discrete}
 use lib.Dec.{eqb}
-use Rattle.order.specs.Basics.{clash}
 use Rattle.order.specs.Table.{Table, rightOf, flagOf}
 use Rattle.order.specs.Structure.{Structure, Helpable, flagged-for, already-marked}
 use Rattle.order.specs.StructureFacts.{above-not-head, flagged-right-above, predecessor-unique, flagged-not-tail}
@@ -15,11 +14,13 @@ use Rattle.order.specs.EmptyTable.{empty-unflagged}
 use Rattle.order.specs.Stack.{stackOf}
 use Rattle.order.specs.Facts.{AllHold, pendingFacts, facts}
 use Rattle.order.specs.LineKnows.{running-help}
-use Rattle.order.specs.Lawful.{Removal, goes-on, claims, ends, noRowRemoved, removedInHelp, removedRow}
-use Rattle.order.specs.Events.{Event, refused, submitted, stepped, Submitted, StepTaken, effectIn, each-worker}
+use Rattle.order.specs.Lawful.{Removal, goes-on, claims, ends, noRowRemoved, removedInHelp, removedRow, idle-removes-none}
+use Rattle.order.specs.Events.{Event, refused, submitted, stepped, Submitted, StepTaken, each-worker}
 use Rattle.order.specs.Sound.{Sound, all-fresh}
 use Rattle.order.specs.SoundKept.{step-lawful}
-use Rattle.model.specs.State.{rowAt, workerAt, idle, emptyCatalogue}
+use Rattle.kept.specs.Conditions.{clash}
+use Rattle.kept.specs.Ways.{effectIn}
+use Rattle.model.specs.State.{rowAt, workerAt, emptyCatalogue}
 use Rattle.model.specs.Answers.{line-after}
 use Rattle.model.specs.Choices.{if-both}
 use Rattle.model.specs.Step.{written, firstLine}
@@ -111,13 +112,6 @@ unfolding firstLine
 first-removes-none code key element =
     if-both (λ (l : Line). removedRow l ≡ noRowRemoved) (eqb code 1) refl
     (if-both (λ (l : Line). removedRow l ≡ noRowRemoved) (eqb code 2) refl refl)
-
-idle-removes-none : (l : Line) → idle l ≡ true → removedRow l ≡ noRowRemoved
-idle-removes-none (Idle a) h = refl
-idle-removes-none (Search l f) h = refl
-idle-removes-none (Insert l f) h = refl
-idle-removes-none (Flag l f) h = refl
-idle-removes-none (Help l f) h = absurd (clash h refl)
 
 -- the same rows flagged, and every worker removes what it removed
 same-owners : {c c' : Catalogue} → c' .rows ≡ c .rows → ((v : ℕ) → removedBy c' v ≡ removedBy c v) → Owned c → Owned c'

@@ -6,8 +6,8 @@ use mathlib.Core.Logic.{_⊎_, inl, inr}
 use mathlib.Core.List.{List, [], _∷_, List·Memᴰ·head, List·Memᴰ·tail, List·Memᴰ·not-nil, List·Memᴰ·cases-cons}
 use native.Mathlib.Omega.{arith}
 use native.Mathlib.Decide.{ℕ-discrete}
-use Rattle.order.specs.Basics.{bool-cases}
 use Rattle.order.specs.Distinct.{Among, Distinct, no-number, one-more}
+use Rattle.kept.specs.Conditions.{bool-cases}
 use Rattle.model.specs.State.{if_then_else_}
 use Rattle.model.specs.Choices.{if-known}
 

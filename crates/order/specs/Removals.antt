@@ -9,7 +9,6 @@ use native.Mathlib.Omega.{arith}
 use lib.Dec.{eqb}
 use lib.ListN.{length}
 use borrow.Author.Tests.{eqb-false, leb-true}
-use Rattle.order.specs.Basics.{clash}
 use Rattle.order.specs.Table.{Table, markOf}
 use Rattle.order.specs.StructureFacts.{above-not-head, unflagged-right-unmarked}
 use Rattle.order.specs.Facts.{SaveOf, AllHold, facts}
@@ -23,6 +22,7 @@ use Rattle.order.specs.Demand.{stateAt, lineAt, Request, SetFlag, Removi
 use Rattle.order.specs.Time.{Ready, sound-at, structure-at, mover-at, move-at, submit-taken}
 use Rattle.order.specs.Running.{TableAt, removedAt, Claimed, Running, Ends}
 use Rattle.order.specs.Courses.{ran}
+use Rattle.kept.specs.Conditions.{clash, contradiction}
 use Rattle.model.specs.State.{workerAt}
 use Rattle.model.specs.Step.{isRequest}
 use Rattle.model.specs.declared.Pending.{Pending}
@@ -75,9 +75,9 @@ delete-code code key element k known is = go (eqb code 0) refl (eqb code 1) refl
   where
     go : (a : Bool) → eqb code 0 ≡ a → (b : Bool) → eqb code 1 ≡ b → (c : Bool) → eqb code 2 ≡ c → DeleteCode code key k
     go true z b p c q = absurd (clash known (rw z refl))
-    go false z true p c q = let e : search key ≡ delete k = rw (p, operation) at is in let apart : _≡_ {A = ℕ} 0 1 = cc in absurd (omega arith)
+    go false z true p c q = let e : search key ≡ delete k = rw (p, operation) at is in contradiction (cc)
     go false z false p true q =
-        let e : insert key element ≡ delete k = rw (p, q, operation) at is in let apart : _≡_ {A = ℕ} 0 1 = cc in absurd (omega arith)
+        let e : insert key element ≡ delete k = rw (p, q, operation) at is in contradiction (cc)
     go false z false p false q =
         let e : delete key ≡ delete k = rw (p, q, operation) at is in
         let not-none : code ≢ 0 = eqb-false code 0 z in

@@ -7,7 +7,6 @@ use mathlib.Core.Logic.{_≢_, _⊎_, inl, inr}
 use mathlib.Core.List.{List, [], _∷_, _++_, List·Memᴰ·head, List·Memᴰ·tail, List·Memᴰ·not-nil}
 use native.Mathlib.Omega.{arith}
 use lib.ListN.{length}
-use Rattle.order.specs.Basics.{clash}
 use Rattle.order.specs.PlainMap.{PlainMap, operation, answerOf, afterAsking}
 use Rattle.order.specs.Asking.{Agrees}
 use Rattle.order.specs.Distinct.{Among, Distinct, one-more}
@@ -23,6 +22,7 @@ use Rattle.order.specs.Fates.{ReadsAt}
 use Rattle.order.specs.Picked.{picked, in-picked, picked-passes, picked-distinct}
 use Rattle.order.specs.Placing.{placedAt}
 use Rattle.order.specs.OrderOfRun.{readsNow, changesNow, reads-now, changes-now, change-known, orderFrom}
+use Rattle.kept.specs.Conditions.{clash, contradiction}
 use Rattle.model.specs.declared.Catalogue.{Catalogue}
 use Rattle.model.specs.declared.Answer.{Answer}
 use Rattle.model.specs.declared.Answer.the-variants.{Added, Removed, Full}
@@ -69,7 +69,7 @@ module _ {top : ℕ} {start : Catalogue} {calls : List Call} (ready : Ready top 
   change-then : {n : PlainMap} {ps : List (Placed start calls)} (s t : ℕ) → Change ready s t → Replays start calls (mapAt ready (suc t)) ps n
       → Replays start calls (mapAt ready t) (record { request = s; moment = t } ∷ ps) n
   change-then s t (adds w code key element e) rest =
-      answers-then _ w code key element t Added (e .running .request) (e .finished) (λ h. let z : _≡_ {A = ℕ} 0 1 = cc in omega arith)
+      answers-then _ w code key element t Added (e .running .request) (e .finished) (λ h. contradiction (cc))
       (add-agrees ready s w code key element t e) rest
   change-then {n} {ps} s t (removes w code key element y r is some unmarked marked) rest =
       go (outcome ready s w code key element t y r is some unmarked marked)
@@ -79,7 +79,7 @@ module _ {top : ℕ} {start : Catalogue} {calls : List Call} (ready : Ready top 
 
       go : Outcome ready s w code key element t y → Replays start calls (mapAt ready t) (record { request = s; moment = t } ∷ ps) n
       go (finishes f h e) =
-          answers-then _ w code key element f _ (r .request) (e .finished) (λ q. let z : _≡_ {A = ℕ} 0 1 = cc in omega arith) agrees rest
+          answers-then _ w code key element f _ (r .request) (e .finished) (λ q. contradiction (cc)) agrees rest
       go (stays m) = removes-then _ w code key element _ (r .request) m agrees rest
 
   -- ---- One step ----

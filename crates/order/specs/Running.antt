@@ -8,17 +8,18 @@ use mathlib.Core.List.{List}
 use native.Mathlib.Omega.{arith}
 use native.Mathlib.Decide.{ℕ-discrete}
 use lib.Dec.{eqb}
-use Rattle.order.specs.Basics.{clash}
 use Rattle.order.specs.Table.{Table}
 use Rattle.order.specs.Moves.{FlagMove}
 use Rattle.order.specs.PlainMap.{Operation, operation, search, insert, delete}
 use Rattle.order.specs.Lawful.{Removal, goes-on, claims, ends, noRowRemoved, removedRow}
-use Rattle.order.specs.Events.{StepTaken, effectIn}
+use Rattle.order.specs.Events.{StepTaken}
 use Rattle.order.specs.SoundKept.{step-lawful}
 use Rattle.order.specs.Demand.{stateAt, lineAt, Accepts, Request, BusySince, Finished}
 use Rattle.order.specs.Memory.{Past, past-still, operationOf, Answered, GoesOn, NextLine, Tells}
 use Rattle.order.specs.LineMemory.{effect-tells}
 use Rattle.order.specs.Time.{Ready, Happening, nothing-happens, submits, steps, happening, sound-at, structure-at, mover-at, move-at, submit-taken}
+use Rattle.kept.specs.Conditions.{clash}
+use Rattle.kept.specs.Ways.{effectIn}
 use Rattle.model.specs.State.{if_then_else_, rowAt, workerAt, idle}
 use Rattle.model.specs.Answers.{line-after}
 use Rattle.model.specs.Effects.{callSearchFrom}

@@ -22,6 +22,7 @@ use Rattle.order.specs.MapChanges.{adds, removes, add-agrees, removal-ag
 use Rattle.order.specs.Causes.{Cause, same-map, changed-by, cause}
 use Rattle.order.specs.Removals.{Deletes, deletes}
 use Rattle.order.specs.Reached.{empty-ready}
+use Rattle.kept.specs.Conditions.{contradiction}
 use Rattle.model.specs.State.{emptyCatalogue}
 use Rattle.model.specs.declared.Catalogue.{Catalogue}
 use Rattle.model.specs.declared.Answer.{Answer}
@@ -50,9 +51,9 @@ module _ (m m' : PlainMap) (k e : ℕ) where
       go (yes same) = held o (ap (answerHolding o) (sym is ∙ ap m same) ∙ agrees .answer)
         where
           held : (p : Operation) → answerHolding p (some e) ≡ Added → m' k ≡ some e
-          held (search j) h = let z : _≡_ {A = ℕ} 0 1 = cc in absurd (omega arith)
-          held (insert j x) h = let z : _≡_ {A = ℕ} 0 1 = cc in absurd (omega arith)
-          held (delete j) h = let z : _≡_ {A = ℕ} 0 1 = cc in absurd (omega arith)
+          held (search j) h = contradiction (cc)
+          held (insert j x) h = contradiction (cc)
+          held (delete j) h = contradiction (cc)
 
 -- the codes
 search-is : (k x : ℕ) → operation 1 k x ≡ search k
@@ -113,8 +114,7 @@ module _ {top : ℕ} {start : Catalogue} {calls : List Call} (ready : Ready top 
   found-with v q h R' removed Absent later x =
       let at = map-lacks (structure-at ready (x .time)) (is-map-at ready (x .time)) k (x .lacks) in
       let held = holds-from (x .time) (omega (arith, x .after)) in
-      let z : _≡_ {A = ℕ} 0 1 = cc in
-      absurd (omega arith)
+      contradiction (cc)
   found-with v q h R' removed Added later x = absurd x
   found-with v q h R' removed Duplicate later x = absurd x
   found-with v q h R' removed (Removed e') later x = absurd x

@@ -12,13 +12,13 @@ use Rattle.order.specs.Table.{rightOf, markOf, rankOf}
 use Rattle.order.specs.Structure.{Structure}
 use Rattle.order.specs.Moves.{Move}
 use Rattle.order.specs.Facts.{AtMost, Above, Below, AllHold, reach, searchCallerFacts, facts}
-use Rattle.order.specs.Tests.{has-key, reaches-rank}
 use Rattle.order.specs.Timeline.{RegularWithin, marked-within, unmarked-earlier, regular-within, lacks-within}
 use Rattle.order.specs.PlainMap.{search}
 use Rattle.order.specs.SearchSteps.{reach-fits}
 use Rattle.order.specs.Memory.{Tells, searchOperation, searchPast, searchCallerPast, cas-links-none}
 use Rattle.order.specs.InsertMemory.{low-not-tail, had-key, insert-2-tells, insert-20-tells}
 use Rattle.order.specs.DeleteMemory.{delete-2-tells, tryFlag-12-tells}
+use Rattle.order.specs.LineConditions.{has-key, reaches-rank}
 use Rattle.model.specs.State.{rowAt}
 use Rattle.model.specs.Choices.{if-both, if-known}
 use Rattle.model.specs.Order.{hasKey}

@@ -6,7 +6,8 @@ use mathlib.Core.Logic.{_≢_, _⊎_, inl, inr}
 use native.Mathlib.Omega.{arith}
 use Rattle.order.specs.Table.{Table, rightOf, markOf, flagOf, backOf, rank, rankOf, IsLinked, Regular}
 use Rattle.order.specs.Structure.{Structure, Helpable, flagged-for, already-marked}
-use Rattle.order.specs.Basics.{clash, Compared, less, equal, more, compared, bool-cases}
+use Rattle.order.specs.Compared.{Compared, less, equal, more, compared}
+use Rattle.kept.specs.Conditions.{clash, bool-cases}
 
 -- the rank of a row that is neither end
 pub save-rank : (top x key : ℕ) → x ≢ 0 → x ≢ 1 → rank top x key ≡ suc key

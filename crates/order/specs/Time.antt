@@ -17,13 +17,13 @@ use Rattle.order.specs.SoundKept.{KeysFit, run-keeps-sound, step-lawful}
 use Rattle.order.specs.Owners.{Owned, event-keeps-owned}
 use Rattle.order.specs.Demand.{stateAt, Accepts}
 use Rattle.order.specs.OneRequest.{any-default}
+use Rattle.kept.specs.Ways.{accepted-not-refused}
+use Rattle.kept.specs.Conditions.{contradiction}
 use Rattle.model.specs.State.{rowAt, workerAt, idle}
 use Rattle.model.specs.Run.{call, run}
 use Rattle.model.specs.declared.Row.{Row}
 use Rattle.model.specs.declared.Catalogue.{Catalogue}
-use Rattle.model.specs.declared.Refusal.{Refusal}
-use Rattle.model.specs.declared.Verdict.{Verdict}
-use Rattle.model.specs.declared.Verdict.the-variants.{Accepted, Refused}
+use Rattle.model.specs.declared.Verdict.the-variants.{Accepted}
 use Rattle.model.specs.declared.Call.{Call}
 use Rattle.model.specs.declared.Call.the-variants.{Submit, Step}
 
@@ -67,10 +67,6 @@ module _ (start : Catalogue) (calls : List Call) where
         → Submitted (stateAt start calls i) (stateAt start calls (suc i)) w code key element → Happening i
     steps : (w : ℕ) → Accepts start calls i (Step w) → StepTaken (stateAt start calls i) (stateAt start calls (suc i)) w → Happening i
 
--- a call that is accepted is not refused
-accepted-refused : {A : Type 0} {v : Verdict} {r : Refusal} → v ≡ Accepted → v ≡ Refused r → A
-accepted-refused h k = let z : _≡_ {A = ℕ} 0 1 = cc in absurd (omega arith)
-
 module _ {top : ℕ} {start : Catalogue} {calls : List Call} (ready : Ready top start calls) where
   abbrev pub at : ℕ → Catalogue
   at = stateAt start calls
@@ -83,7 +79,7 @@ module _ {top : ℕ} {start : Catalogue} {calls : List Call} (ready : Ready top 
   sound-at i = run-keeps-sound top start (take i calls) (ready .sound) (fits-before top i calls (ready .fits))
 
   event-at : (i : ℕ) (x : Call) → Event (stateAt start calls i) x (call (stateAt start calls i) x)
-  event-at i x = call-event (stateAt start calls i) x (sound-at i .worker-count)
+  event-at i x = call-event (stateAt start calls i) x (sound-at i .sizes .workers)
 
   pub owned-at : (i : ℕ) → Owned (stateAt start calls i)
   unfolding stateAt run
@@ -109,8 +105,8 @@ module _ {top : ℕ} {start : Catalogue} {calls : List Call} (ready : Ready top 
 
       go : Event (stateAt start calls i) (Submit w code key element) (call (stateAt start calls i) (Submit w code key element))
           → Submitted (stateAt start calls i) (stateAt start calls (suc i)) w code key element
-      go (refused r v same) = accepted-refused (a .accepted) v
-      go (stepped v small is q s) = let z : _≡_ {A = ℕ} 0 1 = cc in absurd (omega arith)
+      go (refused r v same) = absurd (accepted-not-refused (a .accepted) v)
+      go (stepped v small is q s) = contradiction (cc)
       go (submitted v code' key' element' small is q s) =
           let same-w : v ≡ w = cc in
           let same-code : code' ≡ code = cc in
@@ -123,8 +119,8 @@ module _ {top : ℕ} {start : Catalogue} {calls : List Call} (ready : Ready top 
     where
       go : Event (stateAt start calls i) (Step w) (call (stateAt start calls i) (Step w))
           → StepTaken (stateAt start calls i) (stateAt start calls (suc i)) w
-      go (refused r v same) = accepted-refused (a .accepted) v
-      go (submitted v code key element small is q s) = let z : _≡_ {A = ℕ} 0 1 = cc in absurd (omega arith)
+      go (refused r v same) = absurd (accepted-not-refused (a .accepted) v)
+      go (submitted v code key element small is q s) = contradiction (cc)
       go (stepped v small is q s) =
           let same-w : v ≡ w = cc in
           rw (state-after start calls i (Step w) (a .inside) (a .made)) (rw same-w at s)

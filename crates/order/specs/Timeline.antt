@@ -10,12 +10,12 @@ use native.Mathlib.Decide.{ℕ-discrete}
 use Rattle.order.specs.Table.{Table, rightOf, markOf, backOf, rank, rankOf, IsLinked, Regular}
 use Rattle.order.specs.Structure.{Structure}
 use Rattle.order.specs.Moves.{Move}
-use Rattle.order.specs.Basics.{clash, bool-cases}
 use Rattle.order.specs.StructureFacts.{marked-not-head, marked-not-tail}
 use Rattle.order.specs.Kept.{move-keeps-structure, Grown, grown-refl, grown-trans, grow}
 use Rattle.order.specs.Hindsight.{mark-of, marked-by}
 use Rattle.order.specs.TableMap.{Has, Lacks, rank-of-save, lacks-between, lacks-marked}
 use Rattle.order.specs.MapMoves.{mark-removes}
+use Rattle.kept.specs.Conditions.{clash, bool-cases}
 
 -- the step that marked row x
 pub record MarkedWithin (R : ℕ → Table) (t u x : ℕ) : Type 0 where

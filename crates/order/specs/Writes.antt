@@ -1,18 +1,18 @@
 -- The rows that a line writes, read as a move: one row written leaves every field that it keeps as it was everywhere.
-use Prim.Native.Nat.{ℕ, suc, _≤_, _<_}
+use Prim.Native.Nat.{ℕ, _<_}
 use mathlib.Core.Bool.{true, false}
 use mathlib.Core.Path.{_≡_, refl, ap, sym, _∙_, subst}
-use mathlib.Core.Logic.{_≢_, _⊎_, inl, inr}
+use mathlib.Core.Logic.{_≢_, _⊎_}
 use mathlib.Core.List.{List}
 use native.Mathlib.Omega.{arith}
-use native.Mathlib.Decide.{ℕ-discrete, decLt}
-use lib.ListN.{length, set, List·getD-eq-default, length-set}
+use native.Mathlib.Decide.{ℕ-discrete}
+use lib.ListN.{length, set, length-set}
 use lib.Seq.{getD-set-same, getD-set-other}
-use Rattle.order.specs.Basics.{clash}
-use Rattle.order.specs.Table.{Table, rightOf, markOf, flagOf, backOf, standingOf, rankOf, IsLinked}
+use Rattle.order.specs.Table.{Table, markOf, flagOf, backOf, standingOf, rankOf, IsLinked}
 use Rattle.order.specs.Structure.{Helpable, flagged-for, already-marked}
 use Rattle.order.specs.Moves.{LinkMove, MarkMove, UnlinkMove, FlagMove, BacklinkMove, PrivateMove}
-use Rattle.order.specs.Facts.{Frozen, Helping, Holding}
+use Rattle.order.specs.Facts.{Frozen, Helping}
+use Rattle.kept.specs.Conditions.{clash}
 use Rattle.model.specs.State.{rowAt, freeRow, succOf}
 use Rattle.model.specs.Cas.{withSucc}
 use Rattle.model.specs.Insert.{linkedRow}
@@ -20,7 +20,7 @@ use Rattle.model.specs.HelpFlagged.{withBacklink}
 use Rattle.model.specs.Step.{written}
 use Rattle.model.specs.declared.Row.{Row}
 use Rattle.model.specs.declared.Succ.{Succ}
-use Rattle.model.specs.declared.Standing.the-variants.{Free, Held, Linked}
+use Rattle.model.specs.declared.Standing.the-variants.{Free, Held}
 use Rattle.model.specs.declared.Write.the-variants.{OneRow, TwoRows}
 
 -- the table after one row is written, and after two
@@ -32,21 +32,6 @@ pub record TwoWritten (R R' : Table) (i : ℕ) (r : Row) (j : ℕ) (s : Row) : T
   pub first : R' i ≡ r
   pub second : R' j ≡ s
   pub other : (x : ℕ) → x ≢ i → x ≢ j → R' x ≡ R x
-
--- a row that is not free is one of the list: past the end stands a free row
-pub inside : (rows : List Row) (x : ℕ) → standingOf (rowAt rows) x ≢ Free → x < length rows
-inside rows x used = elim (decLt x (length rows)) [
-  | yes h ↦ h
-  | no h ↦
-      let past : length rows ≤ x = omega arith in
-      absurd (used (ap (λ (r : Row). r .standing) (List·getD-eq-default rows freeRow past)))
-]
-
-pub linked-inside : (rows : List Row) (x : ℕ) → IsLinked (rowAt rows) x → x < length rows
-linked-inside rows x l = inside rows x (λ e. let z : _≡_ {A = ℕ} 0 1 = cc in omega arith)
-
-pub held-inside : (rows : List Row) (x w : ℕ) → standingOf (rowAt rows) x ≡ Held w → x < length rows
-held-inside rows x w h = inside rows x (λ e. let z : _≡_ {A = ℕ} 0 1 = cc in omega arith)
 
 pub one-written : (rows : List Row) (i : ℕ) (r : Row) → i < length rows → OneWritten (rowAt rows) (rowAt (written rows (OneRow i r))) i r
 unfolding written

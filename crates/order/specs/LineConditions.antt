@@ -1,16 +1,16 @@
--- What the tests of the published lines say of the table: a key compared is a rank compared, a C&S that succeeds found the old value.
-use Prim.Native.Nat.{ℕ, zero, suc, _+_, _≤_, _<_}
+-- What the conditions of the published lines say of the table: a key compared is a rank compared, a C&S that succeeds found the old value.
+use Prim.Native.Nat.{ℕ, suc, _≤_, _<_}
 use mathlib.Core.Bool.{Bool, true, false, not, _&&_}
-use mathlib.Core.Path.{_≡_, refl, ap, sym, _∙_}
-use mathlib.Core.Logic.{_≢_, _⊎_, inl, inr}
+use mathlib.Core.Path.{_≡_, refl, ap, sym}
+use mathlib.Core.Logic.{_≢_}
 use mathlib.Core.List.{List}
 use native.Mathlib.Omega.{arith}
-use lib.Dec.{leb, ltb, eqb}
+use lib.Dec.{eqb}
 use borrow.Author.Tests.{ltb-true, ltb-false, leb-true, leb-false, eqb-true, eqb-false, eq-eqb, not-true}
-use Rattle.order.specs.Basics.{clash}
-use Rattle.order.specs.Table.{rank, rankOf, flagOf}
+use Rattle.order.specs.Table.{rank, rankOf}
 use Rattle.order.specs.StructureFacts.{save-rank}
 use Rattle.order.specs.Facts.{reach}
+use Rattle.kept.specs.Conditions.{clash, both}
 use Rattle.model.specs.State.{rowAt}
 use Rattle.model.specs.Choices.{if-known}
 use Rattle.model.specs.Order.{keyAtMost, keyBelow, hasKey}
@@ -107,10 +107,6 @@ reaches-rank top rows f next fits = by-form (strict (f .caller)) refl
 
 -- ---- Successors ----
 
-pub and-true : (a b : Bool) → a && b ≡ true → (a ≡ true) × (b ≡ true)
-and-true true b h = (refl, h)
-and-true false b h = absurd (clash h refl)
-
 same-bit : (a b : Bool) → sameBit a b ≡ true → a ≡ b
 same-bit true b h = sym h
 same-bit false b h = sym (not-true b h)
@@ -119,8 +115,8 @@ same-bit false b h = sym (not-true b h)
 pub same-succ : (s t : Succ) → sameSucc s t ≡ true → s ≡ t
 unfolding sameSucc
 same-succ s t h =
-    let a = and-true (eqb (s .right) (t .right) && sameBit (s .mark) (t .mark)) (sameBit (s .flag) (t .flag)) h in
-    let b = and-true (eqb (s .right) (t .right)) (sameBit (s .mark) (t .mark)) (a .0) in
+    let a = both (eqb (s .right) (t .right) && sameBit (s .mark) (t .mark)) (sameBit (s .flag) (t .flag)) h in
+    let b = both (eqb (s .right) (t .right)) (sameBit (s .mark) (t .mark)) (a .0) in
     let right = eqb-true (s .right) (t .right) (b .0) in
     let mark = same-bit (s .mark) (t .mark) (b .1) in
     let flag = same-bit (s .flag) (t .flag) (a .1) in
@@ -136,4 +132,4 @@ same-succ-refl s t e = rw (ap (λ (u : Succ). sameSucc s u) (sym e)) (rw (eq-eqb
 
 pub flagged-only : (s : Succ) → flaggedOnly s ≡ true → s .flag ≡ true
 unfolding flaggedOnly
-flagged-only s h = and-true (not (s .mark)) (s .flag) h .1
+flagged-only s h = both (not (s .mark)) (s .flag) h .1
