@@ -15,8 +15,8 @@ use Rattle.order.specs.Events.{StepTaken}
 use Rattle.order.specs.Owners.{Owner}
 use Rattle.order.specs.Memory.{links-none}
 use Rattle.order.specs.Demand.{stateAt, lineAt, Accepts}
-use Rattle.order.specs.Time.{Ready, Happening, nothing-happens, submits, steps, happening, owned-at, structure-at, step-move}
-use Rattle.order.specs.Running.{TableAt, removedAt, Ends, Continues, runs, ends-now, continues, step-tells}
+use Rattle.order.specs.Time.{Ready, Happening, nothing-happens, submits, steps, happening, owned-at, structure-at, step-move, TableAt}
+use Rattle.order.specs.Running.{removedAt, Ends, Continues, runs, ends-now, continues, step-tells}
 use Rattle.order.specs.OneRequest.{idle-not-busy}
 use Rattle.order.specs.Courses.{Current, current}
 use Rattle.order.specs.MapAt.{mapAt, same-rows-map, Turn, turns-nothing, turns-link, turns-mark, turn-at}

@@ -14,7 +14,8 @@ use Rattle.order.specs.Time.{Ready, Happening, nothing-happens, submits,
 use Rattle.order.specs.Running.{removedAt, Running, Ends, begins, Continues, runs, ends-now, continues}
 use Rattle.order.specs.Compared.{Compared, less, equal, more, compared}
 use Rattle.kept.specs.Conditions.{clash}
-use Rattle.model.specs.State.{workerAt, idle}
+use Rattle.kept.specs.Ways.{lineOf}
+use Rattle.model.specs.State.{idle}
 use Rattle.model.specs.Run.{run}
 use Rattle.model.specs.declared.Worker.{Worker}
 use Rattle.model.specs.declared.Catalogue.{Catalogue}
@@ -91,7 +92,7 @@ module _ {top : ℕ} {start : Catalogue} {calls : List Call} (ready : Ready top 
             | runs r same ↦ inr (record { request = c .request; code = c .code; key = c .key; element = c .element; running = r })
             | ends-now a e ↦ inl (ap idle (e .finished .answered))
           ]
-      go (inl h) (nothing-happens e) = kept (ap (λ (c : Catalogue). workerAt (c .workers) w .line) e) h
+      go (inl h) (nothing-happens e) = kept (ap (λ (c : Catalogue). lineOf c w) e) h
       go (inl h) (submits v code key element a taken) = elim (ℕ-discrete w v) [
         | yes e ↦ inr (record {
           request = u;

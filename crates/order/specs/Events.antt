@@ -4,20 +4,16 @@ use Prim.Native.Nat.{ℕ, _<_}
 use mathlib.Core.Bool.{true, false}
 use mathlib.Core.Path.{_≡_, refl, sym, subst}
 use mathlib.Core.Logic.{_≢_}
-use mathlib.Core.List.{List}
 use native.Mathlib.Omega.{arith}
 use native.Mathlib.Decide.{ℕ-discrete}
 use lib.ListN.{length, set, length-set}
 use lib.Seq.{getD-set-same, getD-set-other}
-use Rattle.order.specs.Table.{Table}
-use Rattle.order.specs.Stack.{stackOf}
-use Rattle.kept.specs.Ways.{lineOf, effectIn, pushesNinth, submittedWorker, step-ways, worker-step-ways, submit-ways}
-use Rattle.model.specs.State.{rowAt, workerAt, idleWorker, idle}
+use Rattle.kept.specs.Ways.{lineOf, effectIn, pushesNinth, submittedWorker, step-ways, worker-step-ways, submit-ways, workerIn}
+use Rattle.model.specs.State.{idleWorker, idle}
 use Rattle.model.specs.WellFormed.{wellFormed}
 use Rattle.model.specs.Step.{refuse, written, workerAfter, step, isRequest, submit}
 use Rattle.model.specs.Run.{call}
 use Rattle.model.specs.declared.Answer.the-variants.{NoAnswer}
-use Rattle.model.specs.declared.Pending.{Pending}
 use Rattle.model.specs.declared.Worker.{Worker}
 use Rattle.model.specs.declared.Catalogue.{Catalogue}
 use Rattle.model.specs.declared.Refusal.{Refusal}
@@ -27,24 +23,17 @@ use Rattle.model.specs.declared.Stepped.{Stepped}
 use Rattle.model.specs.declared.Call.{Call}
 use Rattle.model.specs.declared.Call.the-variants.{Submit, Step}
 
-abbrev pub tableOf : Catalogue → Table
-tableOf c = rowAt (c .rows)
-
--- the pending helps of worker w, the newest first
-abbrev pub stackIn : Catalogue → ℕ → List Pending
-stackIn c w = stackOf (workerAt (c .workers) w)
-
 -- worker w is k in c' and the others are as in c
 pub record WorkerPut (c c' : Catalogue) (w : ℕ) (k : Worker) : Type 0 where
-  pub now : workerAt (c' .workers) w ≡ k
-  pub others : (v : ℕ) → v ≢ w → workerAt (c' .workers) v ≡ workerAt (c .workers) v
+  pub now : workerIn c' w ≡ k
+  pub others : (v : ℕ) → v ≢ w → workerIn c' v ≡ workerIn c v
   pub size : length (c' .workers) ≡ length (c .workers)
 
 -- what holds of k, and of every other worker as it was, holds of every worker
 pub each-worker : {c c' : Catalogue} {w : ℕ} {k : Worker} → WorkerPut c c' w k → (P : ℕ → Worker → Type 0) → P w k
-    → ((v : ℕ) → v ≢ w → P v (workerAt (c .workers) v)) → (v : ℕ) → P v (workerAt (c' .workers) v)
+    → ((v : ℕ) → v ≢ w → P v (workerIn c v)) → (v : ℕ) → P v (workerIn c' v)
 each-worker {c' = c'} {w = w} put P mine theirs v = elim (ℕ-discrete v w) [
-  | yes e ↦ subst (λ (u : ℕ). P u (workerAt (c' .workers) u)) (sym e) (subst (P w) (sym (put .now)) mine)
+  | yes e ↦ subst (λ (u : ℕ). P u (workerIn c' u)) (sym e) (subst (P w) (sym (put .now)) mine)
   | no e ↦ subst (P v) (sym (put .others v e)) (theirs v e)
 ]
 
@@ -60,7 +49,7 @@ pub record StepTaken (c c' : Catalogue) (w : ℕ) : Type 0 where
   pub was-busy : idle (lineOf c w) ≡ false
   pub few-helps : pushesNinth c w ≡ false
   pub rows-written : c' .rows ≡ written (c .rows) (effectIn c w .write)
-  pub worker : WorkerPut c c' w (workerAfter (workerAt (c .workers) w) (effectIn c w))
+  pub worker : WorkerPut c c' w (workerAfter (workerIn c w) (effectIn c w))
 
 pub data Event (c : Catalogue) (x : Call) (s : Stepped) : Type 0 where
   refused : (r : Refusal) → s .verdict ≡ Refused r → s .state ≡ c → Event c x s

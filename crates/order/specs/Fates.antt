@@ -16,8 +16,8 @@ use Rattle.order.specs.Events.{StepTaken}
 use Rattle.order.specs.SoundKept.{step-lawful}
 use Rattle.order.specs.Asking.{Agrees}
 use Rattle.order.specs.Demand.{stateAt, Accepts, Request, Finished, Removing}
-use Rattle.order.specs.Time.{Ready, Happening, nothing-happens, submits, steps, happening, sound-at, structure-at, step-taken, submit-taken}
-use Rattle.order.specs.Running.{TableAt, removedAt, Running, Ends, begins}
+use Rattle.order.specs.Time.{Ready, Happening, nothing-happens, submits, steps, happening, sound-at, structure-at, step-taken, submit-taken, TableAt}
+use Rattle.order.specs.Running.{removedAt, Running, Ends, begins}
 use Rattle.order.specs.OneRequest.{same-call, same-request}
 use Rattle.order.specs.Courses.{Course, under-way, over, course, ended-not-running, removes-on}
 use Rattle.order.specs.MapAt.{mapAt}
@@ -25,8 +25,8 @@ use Rattle.order.specs.Moments.{reading, Kind, reads-only, is-full, kind
 use Rattle.order.specs.Removals.{MarkedAt, removal-marked}
 use Rattle.order.specs.MapChanges.{Change, adds, removes, change-unfinished}
 use Rattle.kept.specs.Conditions.{clash, bool-cases, contradiction}
-use Rattle.kept.specs.Ways.{effectIn}
-use Rattle.model.specs.State.{rowAt, workerAt, idle}
+use Rattle.kept.specs.Ways.{effectIn, lineOf}
+use Rattle.model.specs.State.{rowAt, idle}
 use Rattle.model.specs.Answers.{line-after}
 use Rattle.model.specs.declared.Row.{Row}
 use Rattle.model.specs.declared.Succ.{Succ}
@@ -203,7 +203,7 @@ module _ {top : ℕ} {start : Catalogue} {calls : List Call} (ready : Ready top 
     where
       go : Happening start calls s → Fate s
       go (nothing-happens e) = none-submitted s (λ w code key element r.
-          clash (ap (λ (c : Catalogue). idle (workerAt (c .workers) w .line)) e ∙ submit-taken ready s w code key element r .was-idle)
+          clash (ap (λ (c : Catalogue). idle (lineOf c w)) e ∙ submit-taken ready s w code key element r .was-idle)
           (begins ready s w code key element r .busy (suc s) (omega arith) (omega arith)))
       go (steps v a taken) = none-submitted s (λ w code key element r.
           let e = same-call s (Submit w code key element) (Step v) r a in

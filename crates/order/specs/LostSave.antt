@@ -15,7 +15,8 @@ use Rattle.order.specs.OneRequest.{any-default}
 use Rattle.order.specs.OrderTheorem.{demand-three}
 use Rattle.order.specs.SavesFound.{stored-save-found}
 use Rattle.kept.specs.Conditions.{clash, both}
-use Rattle.model.specs.State.{workerAt, idle, emptyCatalogue}
+use Rattle.kept.specs.Ways.{lineOf}
+use Rattle.model.specs.State.{idle, emptyCatalogue}
 use Rattle.model.specs.Computed.{computed}
 use Rattle.model.specs.Run.{run}
 use Rattle.model.specs.declared.Catalogue.{Catalogue}
@@ -66,8 +67,8 @@ module _ (start : Catalogue) (xs ys : List Call) where
     later = x .later;
     step = accepts-still f (Step w) (x .step);
     busy = λ j low high.
-        subst (λ (c : Catalogue). idle (workerAt (c .workers) w .line) ≡ false) (sym (same-state j (omega (arith, x .step .inside)))) (x .busy j low high);
-    answered = subst (λ (c : Catalogue). workerAt (c .workers) w .line ≡ Idle a) (sym (same-state (suc f) (x .step .inside))) (x .answered);
+        subst (λ (c : Catalogue). idle (lineOf c w) ≡ false) (sym (same-state j (omega (arith, x .step .inside)))) (x .busy j low high);
+    answered = subst (λ (c : Catalogue). lineOf c w ≡ Idle a) (sym (same-state (suc f) (x .step .inside))) (x .answered);
   }
 
 -- ---- B's add ----

@@ -16,8 +16,8 @@ use Rattle.order.specs.Lawful.{noRowRemoved}
 use Rattle.order.specs.Asking.{Agrees}
 use Rattle.order.specs.Memory.{Answered, LinksRow}
 use Rattle.order.specs.Demand.{stateAt, Accepts, Request, Removing}
-use Rattle.order.specs.Time.{Ready, Happening, nothing-happens, submits, steps, happening, owned-at, structure-at, mover-at, move-at}
-use Rattle.order.specs.Running.{TableAt, removedAt, Running, Ends}
+use Rattle.order.specs.Time.{Ready, Happening, nothing-happens, submits, steps, happening, owned-at, structure-at, mover-at, move-at, TableAt}
+use Rattle.order.specs.Running.{removedAt, Running, Ends}
 use Rattle.order.specs.OneRequest.{same-stepper, same-request, same-finish}
 use Rattle.order.specs.Courses.{ended-not-running, Course, under-way, over, course, alone, removes-on}
 use Rattle.order.specs.MapAt.{mapAt, link-of, mark-agrees}

@@ -12,8 +12,8 @@ use Rattle.order.specs.MapOfTable.{map-has, map-lacks}
 use Rattle.order.specs.Asking.{Agrees, found-agrees, absent-agrees, duplicate-agrees, no-delete-agrees}
 use Rattle.order.specs.Memory.{Answered, RemovesRow}
 use Rattle.order.specs.Demand.{stateAt, Accepts}
-use Rattle.order.specs.Time.{Ready, Happening, nothing-happens, submits, steps, happening, structure-at}
-use Rattle.order.specs.Running.{TableAt, removedAt, Ends}
+use Rattle.order.specs.Time.{Ready, Happening, nothing-happens, submits, steps, happening, structure-at, TableAt}
+use Rattle.order.specs.Running.{removedAt, Ends}
 use Rattle.order.specs.MapAt.{mapAt, is-map-at, same-rows-map, link-agrees}
 use Rattle.model.specs.declared.Catalogue.{Catalogue}
 use Rattle.model.specs.declared.Answer.{Answer}

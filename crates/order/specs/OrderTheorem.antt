@@ -7,7 +7,7 @@ use mathlib.Core.List.{List, List·Memᴰ}
 use mathlib.Core.Option.{Option, none, some}
 use native.Mathlib.Omega.{arith}
 use lib.ListN.{length}
-use Rattle.order.specs.Table.{flagOf}
+use Rattle.order.specs.Table.{flagOf, tableOf}
 use Rattle.order.specs.Structure.{Structure}
 use Rattle.order.specs.TableMap.{Has, shown-has, has-shown}
 use Rattle.order.specs.Walk.{walk-meets-chain}
@@ -26,7 +26,8 @@ use Rattle.order.specs.Replay.{order-replays}
 use Rattle.order.specs.FullAnswer.{full-exactly}
 use Rattle.order.specs.Lawful.{idle-removes-none}
 use Rattle.kept.specs.Conditions.{clash, contradiction}
-use Rattle.model.specs.State.{rowAt, workerAt, idle, emptyCatalogue}
+use Rattle.kept.specs.Ways.{lineOf}
+use Rattle.model.specs.State.{rowAt, idle, emptyCatalogue}
 use Rattle.model.specs.Run.{run}
 use Rattle.model.specs.declared.Row.{Row}
 use Rattle.model.specs.declared.Catalogue.{Catalogue}
@@ -125,10 +126,10 @@ demand-from start calls before ready holds = record {
 -- ---- States at rest ----
 
 abbrev pub AllIdle : Catalogue → Type 0
-AllIdle c = (w : ℕ) → idle (workerAt (c .workers) w .line) ≡ true
+AllIdle c = (w : ℕ) → idle (lineOf c w) ≡ true
 
 abbrev pub NoneFlagged : Catalogue → Type 0
-NoneFlagged c = (x : ℕ) → flagOf (rowAt (c .rows)) x ≡ false
+NoneFlagged c = (x : ℕ) → flagOf (tableOf c) x ≡ false
 
 -- a sound state at rest, in which no flag is set
 pub rest-ready : {top : ℕ} {start : Catalogue} {calls : List Call} → Sound top start → AllIdle start → NoneFlagged start → KeysFit top calls
@@ -138,7 +139,7 @@ rest-ready {start = start} sound at-rest unflagged fits = record {
   owned = record {
     owner = λ p h. absurd (clash h (unflagged p));
     only = λ u v row some mine theirs.
-        absurd (some (sym mine ∙ idle-removes-none (workerAt (start .workers) u .line) (at-rest u)));
+        absurd (some (sym mine ∙ idle-removes-none (lineOf start u) (at-rest u)));
   };
   at-rest = at-rest;
   fits = fits;

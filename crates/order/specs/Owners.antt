@@ -6,12 +6,12 @@ use mathlib.Core.Logic.{_≢_}
 use mathlib.Core.List.{List, [], _∷_}
 use native.Mathlib.Decide.{ℕ-discrete}
 use lib.Dec.{eqb}
-use Rattle.order.specs.Table.{Table, rightOf, flagOf}
+use Rattle.order.specs.Table.{Table, rightOf, flagOf, tableOf}
 use Rattle.order.specs.Structure.{Structure, Helpable, flagged-for, already-marked}
 use Rattle.order.specs.StructureFacts.{above-not-head, flagged-right-above, predecessor-unique, flagged-not-tail}
 use Rattle.order.specs.Moves.{Move, nothing, links, marks, unlinks, flags, backlinks, private, FlagMove}
 use Rattle.order.specs.EmptyTable.{empty-unflagged}
-use Rattle.order.specs.Stack.{stackOf}
+use Rattle.order.specs.Stack.{stackIn}
 use Rattle.order.specs.Facts.{AllHold, pendingFacts, facts}
 use Rattle.order.specs.LineKnows.{running-help}
 use Rattle.order.specs.Lawful.{Removal, goes-on, claims, ends, noRowRemoved, removedInHelp, removedRow, idle-removes-none}
@@ -19,8 +19,8 @@ use Rattle.order.specs.Events.{Event, refused, submitted, stepped, Submi
 use Rattle.order.specs.Sound.{Sound, all-fresh}
 use Rattle.order.specs.SoundKept.{step-lawful}
 use Rattle.kept.specs.Conditions.{clash}
-use Rattle.kept.specs.Ways.{effectIn}
-use Rattle.model.specs.State.{rowAt, workerAt, emptyCatalogue}
+use Rattle.kept.specs.Ways.{effectIn, lineOf, workerIn}
+use Rattle.model.specs.State.{rowAt, emptyCatalogue}
 use Rattle.model.specs.Answers.{line-after}
 use Rattle.model.specs.Choices.{if-both}
 use Rattle.model.specs.Step.{written, firstLine}
@@ -37,14 +37,14 @@ use Rattle.model.specs.declared.Call.{Call}
 
 -- the row that worker w removes
 abbrev pub removedBy : Catalogue → ℕ → ℕ
-removedBy c w = removedRow (workerAt (c .workers) w .line)
+removedBy c w = removedRow (lineOf c w)
 
 pub record Owner (c : Catalogue) (row : ℕ) : Type 0 where
   pub worker : ℕ
   pub removes : removedBy c worker ≡ row
 
 pub record Owned (c : Catalogue) : Type 0 where
-  pub owner : (p : ℕ) → flagOf (rowAt (c .rows)) p ≡ true → Owner c (rightOf (rowAt (c .rows)) p)
+  pub owner : (p : ℕ) → flagOf (tableOf c) p ≡ true → Owner c (rightOf (tableOf c) p)
   pub only : (u v row : ℕ) → row ≢ noRowRemoved → removedBy c u ≡ row → removedBy c v ≡ row → u ≡ v
 
 -- ---- An owner's outermost help ----
@@ -126,20 +126,20 @@ module _ {top : ℕ} {c c' : Catalogue} (sound : Sound top c) (owned : Owned c) 
   submit-keeps-owned : (w code key element : ℕ) → Submitted c c' w code key element → Owned c'
   submit-keeps-owned w code key element s = same-owners {c = c} {c' = c'} (s .rows-same)
       (each-worker (s .worker) (λ v k. removedRow (k .line) ≡ removedBy c v)
-      (first-removes-none code key element ∙ sym (idle-removes-none (workerAt (c .workers) w .line) (s .was-idle)))
+      (first-removes-none code key element ∙ sym (idle-removes-none (lineOf c w) (s .was-idle)))
       (λ v differ. refl))
       owned
 
   -- worker w removed `before` and now removes `after`
   module _ (w : ℕ) (s : StepTaken c c' w) where
     now-removes : removedBy c' w ≡ removedRow (effectIn c w .line)
-    now-removes = ap (λ (k : Worker). removedRow (k .line)) (s .worker .now) ∙ ap removedRow (line-after (workerAt (c .workers) w) (effectIn c w))
+    now-removes = ap (λ (k : Worker). removedRow (k .line)) (s .worker .now) ∙ ap removedRow (line-after (workerIn c w) (effectIn c w))
 
     still-removes : (v : ℕ) → v ≢ w → removedBy c' v ≡ removedBy c v
     still-removes v differ = ap (λ (k : Worker). removedRow (k .line)) (s .worker .others v differ)
 
     -- the owner of a flag that was there, unless it is w and has ended
-    kept-owner : (p : ℕ) (R' : Table) → Move top w (rowAt (c .rows)) R' → flagOf (rowAt (c .rows)) p ≡ true → flagOf R' p ≡ true
+    kept-owner : (p : ℕ) (R' : Table) → Move top w (tableOf c) R' → flagOf (tableOf c) p ≡ true → flagOf R' p ≡ true
         → (removedBy c w ≡ rightOf R' p → removedRow (effectIn c w .line) ≡ rightOf R' p) → Owner c' (rightOf R' p)
     kept-owner p R' m h h' goes =
         let o = owned .owner p h in
@@ -149,7 +149,7 @@ module _ {top : ℕ} {c c' : Catalogue} (sound : Sound top c) (owned : Owned c) 
           | no e ↦ record { worker = o .worker; removes = still-removes (o .worker) e ∙ o .removes ∙ sym same }
         ]
 
-    step-owner : (R' : Table) → Move top w (rowAt (c .rows)) R' → Removal (rowAt (c .rows)) R' (removedBy c w) (removedRow (effectIn c w .line))
+    step-owner : (R' : Table) → Move top w (tableOf c) R' → Removal (tableOf c) R' (removedBy c w) (removedRow (effectIn c w .line))
         → (p : ℕ) → flagOf R' p ≡ true → Owner c' (rightOf R' p)
     step-owner R' m (goes-on same no-new) p h = kept-owner p R' m (no-new p h) h (λ e. same ∙ e)
     step-owner R' m (ends none no-new gone) p h = kept-owner p R' m (no-new p h) h (λ e. absurd (gone p h (sym e)))
@@ -157,20 +157,20 @@ module _ {top : ℕ} {c c' : Catalogue} (sound : Sound top c) (owned : Owned c) 
       | yes e ↦ record { worker = w; removes = now-removes ∙ sym (ap (rightOf R') e ∙ claim .right= prev ∙ claim .prev-right) }
       | no e ↦
           let was = sym (claim .flag-other p e) ∙ h in
-          kept-owner p R' m was h (λ q. absurd (above-not-head top (rowAt (c .rows)) p (rightOf (rowAt (c .rows)) p)
+          kept-owner p R' m was h (λ q. absurd (above-not-head top (tableOf c) p (rightOf (tableOf c) p)
           (flagged-right-above (sound .structure) p was) (sym (claim .right= p) ∙ sym q ∙ none)))
     ]
 
     -- w and another worker
-    not-shared : (R' : Table) → Removal (rowAt (c .rows)) R' (removedBy c w) (removedRow (effectIn c w .line)) → (v row : ℕ) → v ≢ w
+    not-shared : (R' : Table) → Removal (tableOf c) R' (removedBy c w) (removedRow (effectIn c w .line)) → (v row : ℕ) → v ≢ w
         → row ≢ noRowRemoved → removedRow (effectIn c w .line) ≡ row → removedBy c v ≡ row → ⊥
     not-shared R' (goes-on same no-new) v row differ some mine theirs =
         differ (owned .only v w row some theirs (sym same ∙ mine))
     not-shared R' (ends none no-new gone) v row differ some mine theirs = some (sym mine ∙ none)
     not-shared R' (claims claim none) v row differ some mine theirs =
-        claim-free (sound .structure) claim (subst (Helpable (rowAt (c .rows)) (helpedFrom (workerAt (c .workers) v .line) (stackOf (workerAt (c .workers) v))))
+        claim-free (sound .structure) claim (subst (Helpable (tableOf c) (helpedFrom (lineOf c v) (stackIn c v)))
         (theirs ∙ sym mine)
-        (removed-helpable top v (rowAt (c .rows)) (workerAt (c .workers) v .line) (stackOf (workerAt (c .workers) v)) (sound .known v)
+        (removed-helpable top v (tableOf c) (lineOf c v) (stackIn c v) (sound .known v)
         (λ e. some (sym theirs ∙ e))))
 
     step-keeps-owned : Owned c'

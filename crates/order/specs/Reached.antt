@@ -8,18 +8,18 @@ use mathlib.Core.List.{List}
 use native.Mathlib.Omega.{arith}
 use native.Mathlib.Decide.{decLt}
 use lib.ListN.{length, List·getD-eq-default}
-use Rattle.order.specs.Table.{rightOf, flagOf, standingOf}
+use Rattle.order.specs.Table.{rightOf, flagOf, standingOf, tableOf}
 use Rattle.order.specs.Structure.{Helpable, flagged-for}
 use Rattle.order.specs.StructureFacts.{above-not-head, flagged-right-above, help-unique}
 use Rattle.order.specs.Facts.{SaveOf}
 use Rattle.order.specs.Lawful.{noRowRemoved, removedRow}
 use Rattle.order.specs.Memory.{operationOf}
 use Rattle.order.specs.LineKnows.{HoldingFor, Targets, named-is-held, target-known}
-use Rattle.order.specs.Events.{tableOf, stackIn}
 use Rattle.order.specs.Sound.{Sound, empty-sound, all-fresh}
 use Rattle.order.specs.SoundKept.{topOver, keys-fit, top-positive}
 use Rattle.order.specs.Owners.{Owned, removedBy, helpedFrom, removed-helpable, empty-owned}
 use Rattle.order.specs.Time.{Ready, state-end, sound-at, owned-at}
+use Rattle.order.specs.Stack.{stackIn}
 use Rattle.kept.specs.Standing.{held-inside}
 use Rattle.kept.specs.Ways.{lineOf}
 use Rattle.model.specs.State.{workerAt, idleWorker, idle, emptyCatalogue}

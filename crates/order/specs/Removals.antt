@@ -19,8 +19,8 @@ use Rattle.order.specs.PlainMap.{Operation, operation, search, insert, d
 use Rattle.order.specs.Lawful.{noRowRemoved, removedRow, removedInHelp}
 use Rattle.order.specs.Memory.{Answered, RemovesRow, operationOf}
 use Rattle.order.specs.Demand.{stateAt, lineAt, Request, SetFlag, Removing}
-use Rattle.order.specs.Time.{Ready, sound-at, structure-at, mover-at, move-at, submit-taken}
-use Rattle.order.specs.Running.{TableAt, removedAt, Claimed, Running, Ends}
+use Rattle.order.specs.Time.{Ready, sound-at, structure-at, mover-at, move-at, submit-taken, TableAt}
+use Rattle.order.specs.Running.{removedAt, Claimed, Running, Ends}
 use Rattle.order.specs.Courses.{ran}
 use Rattle.kept.specs.Conditions.{clash, contradiction}
 use Rattle.model.specs.State.{workerAt}

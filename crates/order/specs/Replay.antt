@@ -11,8 +11,7 @@ use Rattle.order.specs.PlainMap.{PlainMap, operation, answerOf, afterAsk
 use Rattle.order.specs.Asking.{Agrees}
 use Rattle.order.specs.Distinct.{Among, Distinct, one-more}
 use Rattle.order.specs.Demand.{Placed, Request, Finished, Removing, Replays, at-end, answers, is-full, removes as removes-entry}
-use Rattle.order.specs.Time.{Ready}
-use Rattle.order.specs.Running.{TableAt}
+use Rattle.order.specs.Time.{Ready, TableAt}
 use Rattle.order.specs.OneRequest.{same-request}
 use Rattle.order.specs.MapAt.{mapAt}
 use Rattle.order.specs.Moments.{reading}

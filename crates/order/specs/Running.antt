@@ -8,7 +8,6 @@ use mathlib.Core.List.{List}
 use native.Mathlib.Omega.{arith}
 use native.Mathlib.Decide.{ℕ-discrete}
 use lib.Dec.{eqb}
-use Rattle.order.specs.Table.{Table}
 use Rattle.order.specs.Moves.{FlagMove}
 use Rattle.order.specs.PlainMap.{Operation, operation, search, insert, delete}
 use Rattle.order.specs.Lawful.{Removal, goes-on, claims, ends, noRowRemoved, removedRow}
@@ -17,9 +16,9 @@ use Rattle.order.specs.SoundKept.{step-lawful}
 use Rattle.order.specs.Demand.{stateAt, lineAt, Accepts, Request, BusySince, Finished}
 use Rattle.order.specs.Memory.{Past, past-still, operationOf, Answered, GoesOn, NextLine, Tells}
 use Rattle.order.specs.LineMemory.{effect-tells}
-use Rattle.order.specs.Time.{Ready, Happening, nothing-happens, submits, steps, happening, sound-at, structure-at, mover-at, move-at, submit-taken}
+use Rattle.order.specs.Time.{Ready, Happening, nothing-happens, submits, steps, happening, sound-at, structure-at, mover-at, move-at, submit-taken, TableAt}
 use Rattle.kept.specs.Conditions.{clash}
-use Rattle.kept.specs.Ways.{effectIn}
+use Rattle.kept.specs.Ways.{effectIn, lineOf}
 use Rattle.model.specs.State.{if_then_else_, rowAt, workerAt, idle}
 use Rattle.model.specs.Answers.{line-after}
 use Rattle.model.specs.Effects.{callSearchFrom}
@@ -51,10 +50,6 @@ first-line P code key element s i d = go (eqb code 1) (eqb code 2)
     go false false = d
 
 module _ {top : ℕ} {start : Catalogue} {calls : List Call} (ready : Ready top start calls) where
-  -- the table before the call at position i
-  abbrev pub TableAt : ℕ → Table
-  TableAt i = rowAt (stateAt start calls i .rows)
-
   -- the row that worker w removes
   abbrev pub removedAt : ℕ → ℕ → ℕ
   removedAt i w = removedRow (lineAt start calls i w)
@@ -66,7 +61,7 @@ module _ {top : ℕ} {start : Catalogue} {calls : List Call} (ready : Ready top 
     pub later : s < at
     pub before : at < u
     pub step : Accepts start calls at (Step w)
-    pub flag : FlagMove (TableAt at) (TableAt (suc at)) prev y
+    pub flag : FlagMove (TableAt ready at) (TableAt ready (suc at)) prev y
     pub removes : (j : ℕ) → at < j → j ≤ u → removedAt j w ≡ y
 
   -- the request submitted at s runs at position u
@@ -75,14 +70,14 @@ module _ {top : ℕ} {start : Catalogue} {calls : List Call} (ready : Ready top 
     pub since : s < u
     pub busy : BusySince start calls s w u
     pub operation-is : operationOf (lineAt start calls u w) ≡ operation code key element
-    pub past : Past TableAt (suc s) u (lineAt start calls u w)
+    pub past : Past (TableAt ready) (suc s) u (lineAt start calls u w)
     pub claim : (removedAt u w ≡ noRowRemoved) ⊎ Claimed s w u (removedAt u w)
 
   -- the request ends at f with answer a
   pub record Ends (s w code key element f : ℕ) (a : Answer) : Type 0 where
     pub running : Running s w code key element f
     pub finished : Finished start calls s w f a
-    pub answered : Answered w TableAt (suc s) f (TableAt (suc f)) (removedAt f w) (operation code key element) a
+    pub answered : Answered w (TableAt ready) (suc s) f (TableAt ready (suc f)) (removedAt f w) (operation code key element) a
 
   -- ---- It begins ----
 
@@ -94,11 +89,11 @@ module _ {top : ℕ} {start : Catalogue} {calls : List Call} (ready : Ready top 
         let e : j ≡ suc s = omega arith in
         rw e (first (λ l o. idle l ≡ false) refl refl refl);
     operation-is = first (λ l o. operationOf l ≡ o) refl refl refl;
-    past = first (λ l o. Past TableAt (suc s) (suc s) l) (head, tt, tt) (head, tt, tt) (head, tt, tt);
+    past = first (λ l o. Past (TableAt ready) (suc s) (suc s) l) (head, tt, tt) (head, tt, tt) (head, tt, tt);
     claim = inl (first (λ l o. removedRow l ≡ noRowRemoved) refl refl refl);
   }
     where
-      head : TableAt (suc s) 0 .succ .mark ≡ false
+      head : TableAt ready (suc s) 0 .succ .mark ≡ false
       head = structure-at ready (suc s) .head .unmarked
 
       line : lineAt start calls (suc s) w ≡ firstLine code key element
@@ -145,7 +140,7 @@ module _ {top : ℕ} {start : Catalogue} {calls : List Call} (ready : Ready top 
           since = omega (arith, r .since);
           busy = busy-further s w u (r .busy) (rw same (r .busy u (r .since) (omega arith)));
           operation-is = rw same (r .operation-is);
-          past = rw same (past-still TableAt (suc s) u (lineAt start calls u w) (r .past));
+          past = rw same (past-still (TableAt ready) (suc s) u (lineAt start calls u w) (r .past));
           claim = elim (r .claim) [
             | inl none ↦ inl (rw same none)
             | inr c ↦ inr (rw same (claim-further c (rw same refl)))
@@ -169,7 +164,7 @@ module _ {top : ℕ} {start : Catalogue} {calls : List Call} (ready : Ready top 
           now : removedAt (suc u) w ≡ removedRow (effectIn (stateAt start calls u) w .line)
           now = ap removedRow next-line
 
-          go : Removal (TableAt u) (rowAt (written (stateAt start calls u .rows) (effectIn (stateAt start calls u) w .write))) (removedAt u w)
+          go : Removal (TableAt ready u) (rowAt (written (stateAt start calls u .rows) (effectIn (stateAt start calls u) w .write))) (removedAt u w)
               (removedRow (effectIn (stateAt start calls u) w .line))
               → (removedAt u w ≡ noRowRemoved) ⊎ Claimed s w u (removedAt u w)
               → (removedRow (effectIn (stateAt start calls u) w .line) ≡ noRowRemoved)
@@ -184,7 +179,7 @@ module _ {top : ℕ} {start : Catalogue} {calls : List Call} (ready : Ready top 
             later = r .since;
             before = omega arith;
             step = accepts;
-            flag = subst (λ (rows : List Row). FlagMove (TableAt u) (rowAt rows) prev (removedRow (effectIn (stateAt start calls u) w .line)))
+            flag = subst (λ (rows : List Row). FlagMove (TableAt ready u) (rowAt rows) prev (removedRow (effectIn (stateAt start calls u) w .line)))
                 (sym (taken .rows-written)) flag;
             removes = λ j low high.
                 let e : j ≡ suc u = omega arith in
@@ -192,7 +187,7 @@ module _ {top : ℕ} {start : Catalogue} {calls : List Call} (ready : Ready top 
           })
 
       goes : (l : Line) → idle l ≡ false → lineAt start calls (suc u) w ≡ l
-          → GoesOn w TableAt (suc s) u (rowAt (written (stateAt start calls u .rows) (effectIn (stateAt start calls u) w .write))) (removedAt u w)
+          → GoesOn w (TableAt ready) (suc s) u (rowAt (written (stateAt start calls u .rows) (effectIn (stateAt start calls u) w .write))) (removedAt u w)
           (operationOf (lineAt start calls u w)) l
           → Continues s w code key element u
       goes l busy is g = runs
@@ -201,7 +196,7 @@ module _ {top : ℕ} {start : Catalogue} {calls : List Call} (ready : Ready top 
             since = omega (arith, r .since);
             busy = busy-further s w u (r .busy) (rw is busy);
             operation-is = rw is (g .operation-same ∙ r .operation-is);
-            past = rw is (past-still TableAt (suc s) u l (g .past));
+            past = rw is (past-still (TableAt ready) (suc s) u l (g .past));
             claim = claim-after;
           })
           (elim (g .removed-same) [ inl none ↦ inl none | inr same ↦ inr (ap removedRow is ∙ same) ])
@@ -210,7 +205,7 @@ module _ {top : ℕ} {start : Catalogue} {calls : List Call} (ready : Ready top 
       stepped-on = go (effectIn (stateAt start calls u) w .line) next-line (step-tells (taken .was-busy) .next)
         where
           go : (l : Line) → lineAt start calls (suc u) w ≡ l
-              → NextLine w TableAt (suc s) u (rowAt (written (stateAt start calls u .rows) (effectIn (stateAt start calls u) w .write))) (removedAt u w)
+              → NextLine w (TableAt ready) (suc s) u (rowAt (written (stateAt start calls u .rows) (effectIn (stateAt start calls u) w .write))) (removedAt u w)
               (operationOf (lineAt start calls u w)) l
               → Continues s w code key element u
           go (Idle a) is answered = ends-now a (record {
@@ -230,7 +225,7 @@ module _ {top : ℕ} {start : Catalogue} {calls : List Call} (ready : Ready top 
         still-busy = r .busy u (r .since) (omega arith)
 
         go : Happening start calls u → Continues s w code key element u
-        go (nothing-happens e) = unchanged (ap (λ (c : Catalogue). workerAt (c .workers) w .line) e)
+        go (nothing-happens e) = unchanged (ap (λ (c : Catalogue). lineOf c w) e)
         go (submits v code' key' element' a taken) = elim (ℕ-discrete w v) [
           | yes e ↦ absurd (clash (ap (λ (x : ℕ). idle (lineAt start calls u x)) e ∙ taken .was-idle) still-busy)
           | no e ↦ unchanged (ap (λ (k : Worker). k .line) (taken .worker .others w e))

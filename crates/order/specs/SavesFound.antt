@@ -14,8 +14,7 @@ use Rattle.order.specs.MapOfTable.{map-has, map-lacks, setting-other}
 use Rattle.order.specs.Asking.{Agrees, added-holds}
 use Rattle.order.specs.Memory.{Answered}
 use Rattle.order.specs.Demand.{Request, Finished}
-use Rattle.order.specs.Time.{Ready, structure-at}
-use Rattle.order.specs.Running.{TableAt}
+use Rattle.order.specs.Time.{Ready, structure-at, TableAt}
 use Rattle.order.specs.Courses.{ended, ended-not-running}
 use Rattle.order.specs.MapAt.{mapAt, is-map-at}
 use Rattle.order.specs.MapChanges.{adds, removes, add-agrees, removal-agrees}

@@ -2,15 +2,16 @@
 -- arrays have their sizes. The empty catalogue is the first such state.
 use Prim.Native.Nat.{ℕ, zero, suc, _≤_}
 use mathlib.Core.Path.{_≡_, refl, ap, sym, subst}
-use Rattle.order.specs.Table.{standingOf}
+use Rattle.order.specs.Table.{standingOf, tableOf}
 use Rattle.order.specs.Structure.{Structure}
 use Rattle.order.specs.EmptyTable.{emptyTable, empty-save, empty-structure}
-use Rattle.order.specs.Stack.{stackOf}
+use Rattle.order.specs.Stack.{stackOf, stackIn}
 use Rattle.order.specs.Facts.{AllHold, facts}
 use Rattle.kept.specs.Standing.{held-not-linked, free-not-held}
 use Rattle.kept.specs.Sized.{Sized, empty-sized}
 use Rattle.kept.specs.Stores.{copy-at}
-use Rattle.model.specs.State.{rowAt, workerAt, idleWorker, emptyCatalogue}
+use Rattle.kept.specs.Ways.{lineOf, workerIn}
+use Rattle.model.specs.State.{idleWorker, emptyCatalogue}
 use Rattle.model.specs.WellFormed.{heldRow}
 use Rattle.model.specs.declared.Answer.the-variants.{NoAnswer}
 use Rattle.model.specs.declared.Standing.the-variants.{Held}
@@ -19,13 +20,13 @@ use Rattle.model.specs.declared.Worker.{Worker}
 use Rattle.model.specs.declared.Catalogue.{Catalogue}
 
 pub record Sound (top : ℕ) (c : Catalogue) : Type 0 where
-  pub structure : Structure top (rowAt (c .rows))
-  pub known : (w : ℕ) → AllHold top w (rowAt (c .rows)) (facts (workerAt (c .workers) w .line) (stackOf (workerAt (c .workers) w)))
-  pub named : (w x : ℕ) → standingOf (rowAt (c .rows)) x ≡ Held w → heldRow (workerAt (c .workers) w .line) ≡ x
+  pub structure : Structure top (tableOf c)
+  pub known : (w : ℕ) → AllHold top w (tableOf c) (facts (lineOf c w) (stackIn c w))
+  pub named : (w x : ℕ) → standingOf (tableOf c) x ≡ Held w → heldRow (lineOf c w) ≡ x
   pub sizes : Sized c
 
 -- past the end of the workers stands a fresh one too
-pub all-fresh : (w : ℕ) → workerAt (emptyCatalogue .workers) w ≡ idleWorker NoAnswer
+pub all-fresh : (w : ℕ) → workerIn emptyCatalogue w ≡ idleWorker NoAnswer
 all-fresh w = copy-at 8 (idleWorker NoAnswer) w
 
 none-held : (x w : ℕ) → standingOf emptyTable x ≡ Held w → ⊥

@@ -8,12 +8,12 @@ use mathlib.Core.List.{List, [], _∷_}
 use native.Mathlib.Omega.{arith}
 use lib.Dec.{eqb}
 use lib.ListN.{length}
-use Rattle.order.specs.Table.{Table, standingOf}
+use Rattle.order.specs.Table.{Table, standingOf, tableOf}
 use Rattle.order.specs.Structure.{Structure}
 use Rattle.order.specs.StructureFacts.{head-rank}
 use Rattle.order.specs.Moves.{Move, nothing, links, marks, unlinks, flags, backlinks, private}
 use Rattle.order.specs.Kept.{move-keeps-structure}
-use Rattle.order.specs.Stack.{newestFirst, stackOf, stackAfter, stacked-stack}
+use Rattle.order.specs.Stack.{newestFirst, stackOf, stackAfter, stacked-stack, stackIn}
 use Rattle.order.specs.Facts.{AtMost, AllHold, facts}
 use Rattle.order.specs.StableFacts.{others-leave-held, facts-survive}
 use Rattle.order.specs.Lawful.{Lawful, removedRow}
@@ -21,10 +21,10 @@ use Rattle.order.specs.EveryLine.{effect-lawful}
 use Rattle.order.specs.Events.{Event, refused, submitted, stepped, Submitted, StepTaken, each-worker, call-event}
 use Rattle.order.specs.Sound.{Sound}
 use Rattle.kept.specs.Standing.{held-not-linked, held-inside, free-not-held}
-use Rattle.kept.specs.Ways.{effectIn, submittedWorker}
+use Rattle.kept.specs.Ways.{effectIn, submittedWorker, lineOf, workerIn}
 use Rattle.kept.specs.Sized.{EightHelps, written-length, after-helps}
 use Rattle.kept.specs.IdleLine.{if-idle, idle-names-none}
-use Rattle.model.specs.State.{rowAt, workerAt, idle}
+use Rattle.model.specs.State.{rowAt, idle}
 use Rattle.model.specs.Choices.{if-both, if-known}
 use Rattle.model.specs.WellFormed.{heldRow}
 use Rattle.model.specs.Step.{written, workerAfter, ninthHelp, firstLine}
@@ -87,16 +87,16 @@ module _ (top : ℕ) (c c' : Catalogue) (sound : Sound top c) where
   submit-keeps-sound : (w code key element : ℕ) → suc key < top → Submitted c c' w code key element → Sound top c'
   submit-keeps-sound w code key element fits s = record {
     structure = same-rows (λ rows. Structure top (rowAt rows)) (sound .structure);
-    known = each-worker (s .worker) (λ v k. AllHold top v (rowAt (c' .rows)) (facts (k .line) (stackOf k)))
+    known = each-worker (s .worker) (λ v k. AllHold top v (tableOf c') (facts (k .line) (stackOf k)))
         (same-rows (λ rows. AllHold top w (rowAt rows) (facts (firstLine code key element) (stackOf (submittedWorker code key element))))
-        (first-known top w (rowAt (c .rows)) code key element (sound .structure) fits))
-        (λ v e. same-rows (λ rows. AllHold top v (rowAt rows) (facts (workerAt (c .workers) v .line) (stackOf (workerAt (c .workers) v)))) (sound .known v));
-    named = same-rows (λ rows. (v x : ℕ) → standingOf (rowAt rows) x ≡ Held v → heldRow (workerAt (c' .workers) v .line) ≡ x)
-        (each-worker (s .worker) (λ v k. (x : ℕ) → standingOf (rowAt (c .rows)) x ≡ Held v → heldRow (k .line) ≡ x)
+        (first-known top w (tableOf c) code key element (sound .structure) fits))
+        (λ v e. same-rows (λ rows. AllHold top v (rowAt rows) (facts (lineOf c v) (stackIn c v))) (sound .known v));
+    named = same-rows (λ rows. (v x : ℕ) → standingOf (rowAt rows) x ≡ Held v → heldRow (lineOf c' v) ≡ x)
+        (each-worker (s .worker) (λ v k. (x : ℕ) → standingOf (tableOf c) x ≡ Held v → heldRow (k .line) ≡ x)
         (λ x h. absurd (omega (
           arith,
           sound .named w x h,
-          idle-names-none (workerAt (c .workers) w .line) (s .was-idle),
+          idle-names-none (lineOf c w) (s .was-idle),
           held-inside (c .rows) x w h,
           sound .sizes .rows,
         )))
@@ -113,18 +113,18 @@ module _ (top : ℕ) (c c' : Catalogue) (sound : Sound top c) where
 
   -- the effect of the step is lawful
   pub step-lawful : (w : ℕ) → StepTaken c c' w
-      → Lawful top w (c .rows) (heldRow (workerAt (c .workers) w .line)) (removedRow (workerAt (c .workers) w .line)) (stackOf (workerAt (c .workers) w)) (effectIn c w)
-  step-lawful w s = effect-lawful top w (c .rows) (workerAt (c .workers) w) (sound .structure) (sound .sizes .rows) (s .was-busy) (sound .known w)
+      → Lawful top w (c .rows) (heldRow (lineOf c w)) (removedRow (lineOf c w)) (stackIn c w) (effectIn c w)
+  step-lawful w s = effect-lawful top w (c .rows) (workerIn c w) (sound .structure) (sound .sizes .rows) (s .was-busy) (sound .known w)
 
   step-keeps-sound : (w : ℕ) → StepTaken c c' w → Sound top c'
   step-keeps-sound w s = record {
     structure = rows-after (λ rows. Structure top (rowAt rows)) (move-keeps-structure (sound .structure) (l .move));
-    known = rows-after (λ rows. (v : ℕ) → AllHold top v (rowAt rows) (facts (workerAt (c' .workers) v .line) (stackOf (workerAt (c' .workers) v))))
+    known = rows-after (λ rows. (v : ℕ) → AllHold top v (rowAt rows) (facts (lineOf c' v) (stackIn c' v)))
         (each-worker (s .worker) (λ v k. AllHold top v (rowAt after) (facts (k .line) (stackOf k)))
         (known-after k e top w (rowAt after) (s .few-helps) (sound .sizes .helps w) (l .known))
         (λ v differ. facts-survive top v (sound .structure) (l .move) (others-leave-held (sound .structure) (λ q. differ (sym q)) (l .move))
-        (facts (workerAt (c .workers) v .line) (stackOf (workerAt (c .workers) v))) (sound .known v)));
-    named = rows-after (λ rows. (v x : ℕ) → standingOf (rowAt rows) x ≡ Held v → heldRow (workerAt (c' .workers) v .line) ≡ x)
+        (facts (lineOf c v) (stackIn c v)) (sound .known v)));
+    named = rows-after (λ rows. (v x : ℕ) → standingOf (rowAt rows) x ≡ Held v → heldRow (lineOf c' v) ≡ x)
         (each-worker (s .worker) (λ v k. (x : ℕ) → standingOf (rowAt after) x ≡ Held v → heldRow (k .line) ≡ x)
         (λ x h. ap heldRow (line-after k e) ∙ l .named x (sound .named w x) h)
         (λ v differ x h. sound .named v x (held-before (λ q. differ (sym q)) (l .move) x h)));
@@ -136,7 +136,7 @@ module _ (top : ℕ) (c c' : Catalogue) (sound : Sound top c) where
   }
     where
       k : Worker
-      k = workerAt (c .workers) w
+      k = workerIn c w
 
       e : Effect
       e = effectIn c w

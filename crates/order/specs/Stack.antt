@@ -9,6 +9,7 @@ use native.Mathlib.Numerals.{add-one}
 use lib.ListN.{length, set}
 use lib.Seq.{getD-set-same, getD-set-other}
 use borrow.Author.Tests.{leb-false}
+use Rattle.kept.specs.Ways.{workerIn}
 use Rattle.model.specs.State.{helpAt, noHelp}
 use Rattle.model.specs.Step.{stacked, ninthHelp}
 use Rattle.model.specs.declared.Pending.{Pending}
@@ -16,6 +17,7 @@ use Rattle.model.specs.declared.Worker.{Worker}
 use Rattle.model.specs.declared.Line.{Line}
 use Rattle.model.specs.declared.Stack.{Stack}
 use Rattle.model.specs.declared.Stack.the-variants.{Keep, Push, Pop}
+use Rattle.model.specs.declared.Catalogue.{Catalogue}
 
 -- the first n helps, the last of them first
 unfoldable pub newestFirst : List Pending → ℕ → List Pending
@@ -24,6 +26,10 @@ newestFirst helps (suc n) = helpAt helps n ∷ newestFirst helps n
 
 abbrev pub stackOf : Worker → List Pending
 stackOf k = newestFirst (k .helps) (k .count)
+
+-- the pending helps of worker w
+abbrev pub stackIn : Catalogue → ℕ → List Pending
+stackIn c w = stackOf (workerIn c w)
 
 abbrev pub withoutNewest : List Pending → List Pending
 withoutNewest [] = []

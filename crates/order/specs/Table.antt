@@ -4,12 +4,17 @@
 use Prim.Native.Nat.{ℕ, zero, suc}
 use mathlib.Core.Bool.{Bool, false}
 use mathlib.Core.Path.{_≡_}
+use Rattle.model.specs.State.{rowAt}
 use Rattle.model.specs.declared.Row.{Row}
 use Rattle.model.specs.declared.Standing.{Standing}
 use Rattle.model.specs.declared.Standing.the-variants.{Linked}
+use Rattle.model.specs.declared.Catalogue.{Catalogue}
 
 abbrev pub Table : Type 0
 Table = ℕ → Row
+
+abbrev pub tableOf : Catalogue → Table
+tableOf c = rowAt (c .rows)
 
 abbrev pub rightOf : Table → ℕ → ℕ
 rightOf R x = R x .succ .right

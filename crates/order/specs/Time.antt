@@ -8,7 +8,7 @@ use native.Mathlib.Omega.{arith}
 use native.Mathlib.Decide.{decLt}
 use lib.ListN.{length, take, getD}
 use lib.Seq.{take-suc, take-all}
-use Rattle.order.specs.Table.{Table}
+use Rattle.order.specs.Table.{Table, tableOf}
 use Rattle.order.specs.Structure.{Structure}
 use Rattle.order.specs.Moves.{Move, nothing}
 use Rattle.order.specs.Events.{Event, refused, submitted, stepped, Submitted, StepTaken, call-event}
@@ -17,9 +17,9 @@ use Rattle.order.specs.SoundKept.{KeysFit, run-keeps-sound, step-lawful}
 use Rattle.order.specs.Owners.{Owned, event-keeps-owned}
 use Rattle.order.specs.Demand.{stateAt, Accepts}
 use Rattle.order.specs.OneRequest.{any-default}
-use Rattle.kept.specs.Ways.{accepted-not-refused}
+use Rattle.kept.specs.Ways.{accepted-not-refused, lineOf}
 use Rattle.kept.specs.Conditions.{contradiction}
-use Rattle.model.specs.State.{rowAt, workerAt, idle}
+use Rattle.model.specs.State.{rowAt, idle}
 use Rattle.model.specs.Run.{call, run}
 use Rattle.model.specs.declared.Row.{Row}
 use Rattle.model.specs.declared.Catalogue.{Catalogue}
@@ -31,7 +31,7 @@ use Rattle.model.specs.declared.Call.the-variants.{Submit, Step}
 pub record Ready (top : ℕ) (start : Catalogue) (calls : List Call) : Type 0 where
   pub sound : Sound top start
   pub owned : Owned start
-  pub at-rest : (w : ℕ) → idle (workerAt (start .workers) w .line) ≡ true
+  pub at-rest : (w : ℕ) → idle (lineOf start w) ≡ true
   pub fits : KeysFit top calls
 
 -- ---- The state after one more call ----
@@ -68,11 +68,9 @@ module _ (start : Catalogue) (calls : List Call) where
     steps : (w : ℕ) → Accepts start calls i (Step w) → StepTaken (stateAt start calls i) (stateAt start calls (suc i)) w → Happening i
 
 module _ {top : ℕ} {start : Catalogue} {calls : List Call} (ready : Ready top start calls) where
-  abbrev pub at : ℕ → Catalogue
-  at = stateAt start calls
-
-  abbrev pub tableAt : ℕ → Table
-  tableAt i = rowAt (stateAt start calls i .rows)
+  -- the table before the call at position i
+  abbrev pub TableAt : ℕ → Table
+  TableAt i = tableOf (stateAt start calls i)
 
   pub sound-at : (i : ℕ) → Sound top (stateAt start calls i)
   unfolding stateAt
@@ -91,7 +89,7 @@ module _ {top : ℕ} {start : Catalogue} {calls : List Call} (ready : Ready top 
           (event-keeps-owned (sound-at i) owned (event-at i (getD calls i (Step 0))))
       go (no h) owned = subst Owned (sym (state-past start calls i (omega arith))) owned
 
-  pub structure-at : (i : ℕ) → Structure top (rowAt (stateAt start calls i .rows))
+  pub structure-at : (i : ℕ) → Structure top (TableAt i)
   structure-at i = sound-at i .structure
 
   -- ---- What happens ----
@@ -155,12 +153,12 @@ module _ {top : ℕ} {start : Catalogue} {calls : List Call} (ready : Ready top 
 
   pub record Moved (i : ℕ) : Type 0 where
     pub worker : ℕ
-    pub move : Move top worker (rowAt (stateAt start calls i .rows)) (rowAt (stateAt start calls (suc i) .rows))
+    pub move : Move top worker (TableAt i) (TableAt (suc i))
 
   pub step-move : (i w : ℕ) → StepTaken (stateAt start calls i) (stateAt start calls (suc i)) w
-      → Move top w (rowAt (stateAt start calls i .rows)) (rowAt (stateAt start calls (suc i) .rows))
+      → Move top w (TableAt i) (TableAt (suc i))
   step-move i w s =
-      subst (λ (rows : List Row). Move top w (rowAt (stateAt start calls i .rows)) (rowAt rows)) (sym (s .rows-written))
+      subst (λ (rows : List Row). Move top w (TableAt i) (rowAt rows)) (sym (s .rows-written))
       (step-lawful top (stateAt start calls i) (stateAt start calls (suc i)) (sound-at i) w s .move)
 
   pub moved : (i : ℕ) → Moved i
@@ -174,6 +172,6 @@ module _ {top : ℕ} {start : Catalogue} {calls : List Call} (ready : Ready top 
   pub mover-at : ℕ → ℕ
   mover-at i = moved i .worker
 
-  pub move-at : (i : ℕ) → Move top (mover-at i) (rowAt (stateAt start calls i .rows)) (rowAt (stateAt start calls (suc i) .rows))
+  pub move-at : (i : ℕ) → Move top (mover-at i) (TableAt i) (TableAt (suc i))
   unfolding mover-at
   move-at i = moved i .move
