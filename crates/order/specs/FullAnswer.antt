@@ -8,9 +8,8 @@ use mathlib.Core.List.{List}
 use native.Mathlib.Omega.{arith}
 use lib.Dec.{ltb, eqb}
 use lib.ListN.{set}
-use Rattle.order.specs.Timeline.{grown-later}
 use Rattle.order.specs.Demand.{stateAt, lineAt, HasBeenLinked, IsHeld, NoRowLeft, LooksForRow, FullExactly}
-use Rattle.order.specs.Time.{Ready, sound-at, structure-at, mover-at, move-at, step-taken}
+use Rattle.order.specs.Time.{Ready, sound-at, step-taken, grown-at}
 use Rattle.kept.specs.Conditions.{clash, contradiction}
 use Rattle.kept.specs.Standing.{free-not-linked}
 use Rattle.kept.specs.FreeRows.{NoneFree, none-left, if-none-left}
@@ -212,7 +211,7 @@ module _ {top : ℕ} {start : Catalogue} {calls : List Call} (ready : Ready top 
     where
       go : HasBeenLinked start calls i r ⊎ IsHeld start calls i r → ⊥
       go (inl (j, early, linked)) =
-          free-not-linked free (grown-later (λ (t : ℕ). rowAt (stateAt start calls t .rows)) (mover-at ready) (structure-at ready) (move-at ready) j i r early linked .linked)
+          free-not-linked free (grown-at ready j i r early linked .linked)
       go (inr (v, held, named)) = contradiction (cc)
 
   pub full-exactly : FullExactly start calls

@@ -10,13 +10,12 @@ use native.Mathlib.Decide.{ℕ-discrete, decLe}
 use lib.ListN.{length}
 use Rattle.order.specs.Table.{Table, markOf}
 use Rattle.order.specs.Hindsight.{mark-of}
-use Rattle.order.specs.Timeline.{grown-later}
 use Rattle.order.specs.PlainMap.{Operation, operation, search, insert, delete}
 use Rattle.order.specs.Lawful.{noRowRemoved}
 use Rattle.order.specs.Asking.{Agrees}
 use Rattle.order.specs.Memory.{Answered, LinksRow}
 use Rattle.order.specs.Demand.{stateAt, Accepts, Request, Removing}
-use Rattle.order.specs.Time.{Ready, Happening, nothing-happens, submits, steps, happening, owned-at, structure-at, mover-at, move-at, TableAt}
+use Rattle.order.specs.Time.{Ready, Happening, nothing-happens, submits, steps, happening, owned-at, structure-at, move-at, TableAt, grown-at}
 use Rattle.order.specs.Running.{removedAt, Running, Ends}
 use Rattle.order.specs.OneRequest.{same-stepper, same-request, same-finish}
 use Rattle.order.specs.Courses.{ended-not-running, Course, under-way, over, course, alone, removes-on}
@@ -53,7 +52,7 @@ module _ {top : ℕ} {start : Catalogue} {calls : List Call} (ready : Ready top 
 
   pub marked-still : (t u y : ℕ) → t ≤ u → markOf (TableAt ready t) y ≡ true → markOf (TableAt ready u) y ≡ true
   marked-still t u y h m =
-      grown-later (TableAt ready) (mover-at ready) (structure-at ready) (move-at ready) t u y h (structure-at ready t .mark-linked y m) .mark m
+      grown-at ready t u y h (structure-at ready t .mark-linked y m) .mark m
 
   -- a mark is the work of an accepted step
   pub marking-step : (T y : ℕ) → markOf (TableAt ready T) y ≡ false → markOf (TableAt ready (suc T)) y ≡ true
@@ -103,7 +102,7 @@ module _ {top : ℕ} {start : Catalogue} {calls : List Call} (ready : Ready top 
         go (over f a h e) =
             let answer = ends-removed s w code key element T f y a r is some e in
             let linked = removes-save ready s w code key element T y r is some .save .linked in
-            let g = grown-later (TableAt ready) (mover-at ready) (structure-at ready) (move-at ready) T f y (answer .0) linked in
+            let g = grown-at ready T f y (answer .0) linked in
             finishes f (answer .0) (subst (Ends ready s w code key element f) (answer .1 ∙ ap Removed (g .element)) e)
 
     pub removal-agrees : Agrees (mapAt ready T) (operation code key element) (Removed (TableAt ready T y .element)) (mapAt ready (suc T))

@@ -4,7 +4,7 @@ use Prim.Native.Nat.{ℕ, zero, suc, _+_, _≤_, _<_}
 use mathlib.Core.Bool.{Bool, true, false}
 use mathlib.Core.Path.{_≡_, refl, sym, _∙_, subst}
 use mathlib.Core.Logic.{_⊎_, inl, inr}
-use mathlib.Core.List.{List, [], _++_, List·Memᴰ, List·Memᴰ·not-nil}
+use mathlib.Core.List.{List, [], _++_, List·Memᴰ, List·Memᴰ·not-nil, List·Memᴰ·append-cases, Memᴰ·append-left, Memᴰ·append-right}
 use native.Mathlib.Omega.{arith}
 use native.Mathlib.Decide.{ℕ-discrete}
 use lib.Dec.{eqb}
@@ -16,7 +16,7 @@ use Rattle.order.specs.Distinct.{Among}
 use Rattle.order.specs.MapChanges.{Change, adds, removes, change-once, change-ends, Outcome, finishes, stays, outcome, marking-step}
 use Rattle.order.specs.Fates.{ReadsAt, NoPlace, Fate, reads-at, changes-at, no-place, fate}
 use Rattle.order.specs.Picked.{picked, in-picked, picked-passes, picked-distinct}
-use Rattle.order.specs.Placing.{in-first, in-second, in-either, Once, nobody, once-append, placedAt, in-placed, of-placed, placed-once, placed-in-order}
+use Rattle.order.specs.Placing.{Once, nobody, once-append, placedAt, in-placed, of-placed, placed-once, placed-in-order}
 use Rattle.kept.specs.Conditions.{clash}
 use Rattle.model.specs.declared.Catalogue.{Catalogue}
 use Rattle.model.specs.declared.Call.{Call}
@@ -122,7 +122,7 @@ module _ {top : ℕ} {start : Catalogue} {calls : List Call} (ready : Ready top 
   pub stands : (n t : ℕ) (p : Placed start calls) → List·Memᴰ p (orderFrom n t) → Stands n t p
   unfolding orderFrom
   stands zero t p m = absurd (List·Memᴰ·not-nil m)
-  stands (suc n) t p m = go (in-either p (placedAt start calls t (readers t)) _ m) (λ k. stands n (suc t) p k)
+  stands (suc n) t p m = go (List·Memᴰ·append-cases (placedAt start calls t (readers t)) m) (λ k. stands n (suc t) p k)
     where
       later : Stands n (suc t) p → Stands (suc n) t p
       later s = record { from = omega (arith, s .from); until = omega (arith, s .until); inside = s .inside; belongs = s .belongs }
@@ -140,7 +140,7 @@ module _ {top : ℕ} {start : Catalogue} {calls : List Call} (ready : Ready top 
       go : List·Memᴰ p (placedAt start calls t (readers t)) ⊎ List·Memᴰ p (placedAt start calls t (changers t) ++ orderFrom n (suc t))
           → (List·Memᴰ p (orderFrom n (suc t)) → Stands n (suc t) p) → Stands (suc n) t p
       go (inl k) rest = reader (of-placed start calls t (readers t) p k)
-      go (inr k) rest = elim (in-either p (placedAt start calls t (changers t)) (orderFrom n (suc t)) k) [
+      go (inr k) rest = elim (List·Memᴰ·append-cases (placedAt start calls t (changers t)) k) [
         | inl h ↦ changer (of-placed start calls t (changers t) p h)
         | inr h ↦ later (rest h)
       ]
@@ -152,20 +152,20 @@ module _ {top : ℕ} {start : Catalogue} {calls : List Call} (ready : Ready top 
   in-order-from (suc n) t s T low high inside belongs = go (ℕ-discrete T t) belongs (λ h. in-order-from n (suc t) s T h (omega arith) inside belongs)
     where
       now : BelongsTo t s → List·Memᴰ (record { request = s; moment = t }) (orderFrom (suc n) t)
-      now (inl h) = in-first _ (placedAt start calls t (readers t)) _ (in-placed start calls t s (readers t) (in-picked (readsNow t) s (length calls) inside h))
-      now (inr h) = in-second _ (placedAt start calls t (readers t)) _
-          (in-first _ (placedAt start calls t (changers t)) _ (in-placed start calls t s (changers t) (in-picked (changesNow t) s (length calls) inside h)))
+      now (inl h) = Memᴰ·append-left _ (in-placed start calls t s (readers t) (in-picked (readsNow t) s (length calls) inside h))
+      now (inr h) = Memᴰ·append-right (placedAt start calls t (readers t))
+          (Memᴰ·append-left _ (in-placed start calls t s (changers t) (in-picked (changesNow t) s (length calls) inside h)))
 
       go : Dec (T ≡ t) → BelongsTo T s → (suc t ≤ T → List·Memᴰ (record { request = s; moment = T }) (orderFrom n (suc t)))
           → List·Memᴰ (record { request = s; moment = T }) (orderFrom (suc n) t)
       go (yes e) b rest = rw e (now (subst (λ (i : ℕ). BelongsTo i s) e b))
-      go (no e) b rest = in-second _ (placedAt start calls t (readers t)) _ (in-second _ (placedAt start calls t (changers t)) _ (rest (omega arith)))
+      go (no e) b rest = Memᴰ·append-right (placedAt start calls t (readers t)) (Memᴰ·append-right (placedAt start calls t (changers t)) (rest (omega arith)))
 
   pub order-sorted : (n t : ℕ) → InOrder start calls (orderFrom n t)
   unfolding orderFrom
   order-sorted zero t = no-entry
   order-sorted (suc n) t =
-      placed-in-order start calls t (readers t) _ (λ q m. elim (in-either q (placedAt start calls t (changers t)) (orderFrom n (suc t)) m) [
+      placed-in-order start calls t (readers t) _ (λ q m. elim (List·Memᴰ·append-cases (placedAt start calls t (changers t)) {t = orderFrom n (suc t)} m) [
         | inl k ↦ omega (arith, of-placed start calls t (changers t) q k .0)
         | inr k ↦ omega (arith, stands n (suc t) q k .from)
       ])
@@ -179,7 +179,7 @@ module _ {top : ℕ} {start : Catalogue} {calls : List Call} (ready : Ready top 
       (once-append start calls (placedAt start calls t (changers t)) (orderFrom n (suc t))
       (placed-once start calls t (changers t) (picked-distinct (changesNow t) (length calls))) (order-once n (suc t))
       (λ p q m k e. later p q (inr (changer p m .1)) (changer p m .0) (stands n (suc t) q k) e))
-      (λ p q m k e. elim (in-either q (placedAt start calls t (changers t)) (orderFrom n (suc t)) k) [
+      (λ p q m k e. elim (List·Memᴰ·append-cases (placedAt start calls t (changers t)) k) [
         | inl h ↦ one-way (p .request) t t (reader p m .1) (rw e (changer q h .1))
         | inr h ↦ later p q (inl (reader p m .1)) (reader p m .0) (stands n (suc t) q h) e
       ])

@@ -8,7 +8,7 @@ use native.Mathlib.Omega.{arith}
 use native.Mathlib.Decide.{decLt}
 use lib.ListN.{length, take, getD}
 use lib.Seq.{take-suc, take-all}
-use Rattle.order.specs.Table.{Table, tableOf}
+use Rattle.order.specs.Table.{Table, tableOf, IsLinked}
 use Rattle.order.specs.Structure.{Structure}
 use Rattle.order.specs.Moves.{Move, nothing}
 use Rattle.order.specs.Events.{Event, refused, submitted, stepped, Submitted, StepTaken, call-event}
@@ -17,6 +17,8 @@ use Rattle.order.specs.SoundKept.{KeysFit, run-keeps-sound, step-lawful}
 use Rattle.order.specs.Owners.{Owned, event-keeps-owned}
 use Rattle.order.specs.Demand.{stateAt, Accepts}
 use Rattle.order.specs.OneRequest.{any-default}
+use Rattle.order.specs.Timeline.{grown-later}
+use Rattle.order.specs.Kept.{Grown}
 use Rattle.kept.specs.Ways.{accepted-not-refused, lineOf}
 use Rattle.kept.specs.Conditions.{contradiction}
 use Rattle.model.specs.State.{rowAt, idle}
@@ -175,3 +177,7 @@ module _ {top : ℕ} {start : Catalogue} {calls : List Call} (ready : Ready top 
   pub move-at : (i : ℕ) → Move top (mover-at i) (TableAt i) (TableAt (suc i))
   unfolding mover-at
   move-at i = moved i .move
+
+  -- a linked row, and what has become of it later
+  pub grown-at : (t u x : ℕ) → t ≤ u → IsLinked (TableAt t) x → Grown (TableAt t x) (TableAt u x)
+  grown-at = grown-later TableAt mover-at structure-at move-at
