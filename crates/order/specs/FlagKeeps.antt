@@ -4,18 +4,14 @@ use Prim.Native.Nat.{ℕ}
 use mathlib.Core.Bool.{true}
 use mathlib.Core.Path.{_≡_, sym, _∙_}
 use mathlib.Core.Logic.{_≢_}
-use native.Mathlib.Omega.{arith}
 use native.Mathlib.Decide.{ℕ-discrete}
-use Rattle.order.specs.Table.{Table, rightOf, markOf, flagOf, rankOf, Regular}
+use Rattle.order.specs.Table.{Table, rightOf, markOf, flagOf, Regular}
 use Rattle.order.specs.Structure.{Structure}
 use Rattle.order.specs.Moves.{FlagMove}
-use Rattle.order.specs.Unchanged.{same-rank, same-regular-after, same-regular-before, same-below-tail, same-back-linked, same-back-below, same-right-linked, same-right-above, same-same, same-gap, same-right-marked, same-gap-past-marked, same-past-marked-unmarked}
+use Rattle.order.specs.Unchanged.{same-regular-after, same-regular-before, same-below-tail, same-back-linked, same-back-below, same-right-linked, same-right-above, same-same, same-gap, same-right-marked, same-gap-past-marked, same-past-marked-unmarked}
 use Rattle.kept.specs.Conditions.{clash}
 
 module _ {top : ℕ} {R R' : Table} {prev target : ℕ} (sound : Structure top R) (move : FlagMove R R' prev target) where
-  rank= : (x : ℕ) → rankOf top R' x ≡ rankOf top R x
-  rank= = same-rank top R R' (move .key=)
-
   regular-after : (x : ℕ) → Regular R x → Regular R' x
   regular-after = same-regular-after R R' (move .standing=) (move .mark=)
 

@@ -16,16 +16,14 @@ pub mod Distinct
 pub mod Chain
 pub mod Walk
 pub mod TableMap
-pub mod Hindsight
+pub mod MarkOf
 pub mod MapMoves
 pub mod PlainMap
 pub mod Demand
 pub mod OneRequest
 pub mod MapOfTable
 pub mod Timeline
-pub mod ChainHindsight
 pub mod ChainMap
-pub mod ChainTimeline
 pub mod Stack
 pub mod Facts
 pub mod StableFacts

@@ -10,9 +10,8 @@ use lib.Dec.{eqb}
 use lib.ListN.{length, getD, replicate, length-append, List·getD-append}
 use lib.Seq.{take-append-le, getD-append-add}
 use borrow.Author.Tests.{not-true}
-use Rattle.order.specs.Demand.{stateAt, lineAt, Accepts, Request, Finished, DemandThree}
+use Rattle.order.specs.Demand.{stateAt, lineAt, Accepts, Request, Finished}
 use Rattle.order.specs.OneRequest.{any-default}
-use Rattle.order.specs.OrderTheorem.{demand-three}
 use Rattle.order.specs.SavesFound.{stored-save-found}
 use Rattle.kept.specs.Conditions.{clash, both}
 use Rattle.kept.specs.Ways.{lineOf}
@@ -105,9 +104,6 @@ p8-deletes-none i inside =
     not-true (deletesKey 20 (getD p8 i (Step 0))) (through-each (λ j. not (deletesKey 20 (getD p8 j (Step 0)))) 0 43 refl i (omega arith) (omega arith))
 
 -- ---- The save is never lost ----
-
-pub p8-ordered : DemandThree p8
-p8-ordered = demand-three p8
 
 module _ (more : List Call) (harmless : DeletesNone 20 more) where
   none-deletes : (d v x : ℕ) → Request emptyCatalogue (p8 ++ more) d v 3 20 x → ⊥

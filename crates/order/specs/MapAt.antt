@@ -9,7 +9,7 @@ use native.Mathlib.Omega.{arith}
 use native.Mathlib.Decide.{ℕ-discrete}
 use Rattle.order.specs.Table.{Table, markOf, standingOf, tableOf}
 use Rattle.order.specs.Moves.{Move, nothing, links, marks, unlinks, flags, backlinks, private, LinkMove, MarkMove}
-use Rattle.order.specs.Hindsight.{mark-of}
+use Rattle.order.specs.MarkOf.{mark-of}
 use Rattle.order.specs.MapMoves.{link-adds, mark-removes}
 use Rattle.order.specs.PlainMap.{PlainMap, insert, delete}
 use Rattle.order.specs.MapOfTable.{IsMapOf, map-has, map-lacks, adds-map, removes-map, mapAfterMove, map-after-move}

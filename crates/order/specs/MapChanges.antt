@@ -9,7 +9,7 @@ use native.Mathlib.Omega.{arith}
 use native.Mathlib.Decide.{ℕ-discrete, decLe}
 use lib.ListN.{length}
 use Rattle.order.specs.Table.{Table, markOf}
-use Rattle.order.specs.Hindsight.{mark-of}
+use Rattle.order.specs.MarkOf.{mark-of}
 use Rattle.order.specs.PlainMap.{Operation, operation, search, insert, delete}
 use Rattle.order.specs.Lawful.{noRowRemoved}
 use Rattle.order.specs.Asking.{Agrees}

@@ -10,7 +10,7 @@ use lib.Dec.{eqb}
 use lib.ListN.{length}
 use borrow.Author.Tests.{eqb-false, leb-true}
 use Rattle.order.specs.Table.{Table, markOf}
-use Rattle.order.specs.StructureFacts.{above-not-head, unflagged-right-unmarked}
+use Rattle.order.specs.StructureFacts.{unflagged-right-unmarked}
 use Rattle.order.specs.Facts.{SaveOf, AllHold, facts}
 use Rattle.order.specs.LineKnows.{Targets, in-help, targets-operation, target-known}
 use Rattle.order.specs.Stack.{stackOf}
@@ -124,10 +124,6 @@ module _ {top : ℕ} {start : Catalogue} {calls : List Call} (ready : Ready top 
     pub removes : removedAt ready time w ≡ y
     pub unmarked : markOf (TableAt ready time) y ≡ false
     pub marked : markOf (TableAt ready (suc time)) y ≡ true
-
-  claim-not-head : {s w u y : ℕ} → Claimed ready s w u y → y ≢ noRowRemoved
-  claim-not-head {y = y} c = above-not-head top (TableAt ready (c .at)) (c .prev) y
-      (rw (c .flag .prev-right) at (structure-at ready (c .at) .right-above (c .prev) (c .flag .prev-regular .linked) (c .flag .prev-not-tail)))
 
   claim-marked : (s w code key element u y : ℕ) → Running ready s w code key element u → Claimed ready s w u y → markOf (TableAt ready u) y ≡ true
       → MarkedAt s w code key element u y

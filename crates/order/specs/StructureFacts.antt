@@ -85,13 +85,6 @@ module _ {top : ℕ} {R : Table} (sound : Structure top R) where
   help-below prev del (flagged-for h e) = rw e at (flagged-right-above prev h)
   help-below prev del (already-marked h e) = rw e at (sound .back-below del (sound .mark-linked del h) (marked-not-head del h))
 
-  pub help-del-not-head : (prev del : ℕ) → Helpable R prev del → del ≢ 0
-  help-del-not-head prev del help = above-not-head top R prev del (help-below prev del help)
-
-  pub help-del-not-tail : (prev del : ℕ) → Helpable R prev del → del ≢ 1
-  help-del-not-tail prev del (flagged-for h e) f = sound .flag-not-before-tail prev h (cc)
-  help-del-not-tail prev del (already-marked h e) f = marked-not-tail del h f
-
   -- once del is marked its backlink is the predecessor of the help
   pub help-back : (prev del : ℕ) → Helpable R prev del → markOf R del ≡ true → backOf R del ≡ prev
   help-back prev del (flagged-for h e) k = rw e at (sound .back-of-marked prev h (rw e k))

@@ -11,8 +11,8 @@ use Rattle.order.specs.Table.{Table, rightOf, markOf, backOf, rank, rank
 use Rattle.order.specs.Structure.{Structure}
 use Rattle.order.specs.Moves.{Move}
 use Rattle.order.specs.StructureFacts.{marked-not-head, marked-not-tail}
-use Rattle.order.specs.Kept.{move-keeps-structure, Grown, grown-refl, grown-trans, grow}
-use Rattle.order.specs.Hindsight.{mark-of, marked-by}
+use Rattle.order.specs.Kept.{Grown, grown-refl, grown-trans, grow}
+use Rattle.order.specs.MarkOf.{mark-of, marked-by}
 use Rattle.order.specs.TableMap.{Has, Lacks, rank-of-save, lacks-between, lacks-marked}
 use Rattle.order.specs.MapMoves.{mark-removes}
 use Rattle.kept.specs.Conditions.{clash, bool-cases}
@@ -49,12 +49,6 @@ pub record RegularWithin (R : ℕ → Table) (t u x n : ℕ) : Type 0 where
   pub before : time ≤ u
   pub regular : Regular (R time) x
   pub right : rightOf (R time) x ≡ n
-
--- a sound table at first is sound at every moment
-pub always-sound : {top : ℕ} (R : ℕ → Table) (who : ℕ → ℕ) → Structure top (R 0) → ((t : ℕ) → Move top (who t) (R t) (R (suc t)))
-    → (t : ℕ) → Structure top (R t)
-always-sound R who sound move zero = sound
-always-sound R who sound move (suc t) = move-keeps-structure (always-sound R who sound move t) (move t)
 
 module _ {top : ℕ} (R : ℕ → Table) (who : ℕ → ℕ) (sound : (t : ℕ) → Structure top (R t))
     (move : (t : ℕ) → Move top (who t) (R t) (R (suc t))) where
