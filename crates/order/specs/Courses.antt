@@ -110,12 +110,14 @@ module _ {top : ℕ} {start : Catalogue} {calls : List Call} (ready : Ready top 
       ]
 
   -- two requests of one worker do not run at one time
-  overlap : (s w code key element s' code' key' element' u : ℕ) → Running ready s w code key element u → Running ready s' w code' key' element' u
+  overlap : (s w code key element s' code' key' element' u : ℕ) → Running ready s w code key element u
+      → Running ready s' w code' key' element' u
       → s < s' → ⊥
   overlap s w code key element s' code' key' element' u r r' h =
       clash (submit-taken ready s' w code' key' element' (r' .request) .was-idle) (r .busy s' h (omega (arith, r' .since)))
 
-  pub alone : (s w code key element s' code' key' element' u : ℕ) → Running ready s w code key element u → Running ready s' w code' key' element' u
+  pub alone : (s w code key element s' code' key' element' u : ℕ) → Running ready s w code key element u
+      → Running ready s' w code' key' element' u
       → s ≡ s'
   alone s w code key element s' code' key' element' u r r' = go (compared s s')
     where

@@ -127,13 +127,15 @@ module _ (top me : ℕ) (rows : List Row) (sound : Structure top (rowAt rows)) (
         (λ _. read top me rows noRowHeld 0 hs _ refl refl (fits, (alone, (low, (save, tt)))))
 
     -- Line 10.
-    pub tryFlag-10-lawful : AllHold top me (rowAt rows) (facts (Flag TryFlag10 f) hs) → Lawful top me rows noRowHeld 0 hs (tryFlag-10 rows f)
+    pub tryFlag-10-lawful : AllHold top me (rowAt rows) (facts (Flag TryFlag10 f) hs)
+        → Lawful top me rows noRowHeld 0 hs (tryFlag-10 rows f)
     unfolding tryFlag-10 heldRow
     tryFlag-10-lawful (fits, (alone, (low, (save, (marked, _))))) =
         read top me rows noRowHeld 0 hs _ refl refl
         (fits, (alone, (back-low top me rows sound hs (f .prev) (f .key) low marked, (save, tt))))
 
-    pub flag-lawful : (l : FlagLine) → AllHold top me (rowAt rows) (facts (Flag l f) hs) → Lawful top me rows noRowHeld 0 hs (flagLine rows f l)
+    pub flag-lawful : (l : FlagLine) → AllHold top me (rowAt rows) (facts (Flag l f) hs)
+        → Lawful top me rows noRowHeld 0 hs (flagLine rows f l)
     unfolding flagLine
     flag-lawful TryFlag2 known = tryFlag-2-lawful known
     flag-lawful TryFlag4 known = tryFlag-4-lawful known

@@ -76,7 +76,8 @@ module _ (top me : ℕ) (rows : List Row) (sound : Structure top (rowAt rows)) (
         | no q ↦ q (flagged-unique sound x prev (sym (m .flag-other x q) ∙ h) (m .prev-flagged) (sym (m .right-other x q) ∙ e ∙ sym (m .prev-right)))
       ]
 
-      failed : sameSucc (succAt rows prev) (succOf del false true) ≡ false → (x : ℕ) → flagOf (rowAt rows) x ≡ true → rightOf (rowAt rows) x ≢ del
+      failed : sameSucc (succAt rows prev) (succOf del false true) ≡ false → (x : ℕ) → flagOf (rowAt rows) x ≡ true
+          → rightOf (rowAt rows) x ≢ del
       failed differs x h e =
           let q : prev ≡ x = help-unique sound prev x del (helping .help) (flagged-for h e) in
           let at-x : succAt rows x ≡ succOf del false true =

@@ -83,7 +83,8 @@ module _ (top me : ℕ) (rows : List Row) (sound : Structure top (rowAt rows)) w
     tryMark-2-lawful known = read top me rows _ _ hs _ refl refl known
 
     -- TryMark, lines 3 to 5.
-    pub tryMark-3-lawful : (right : ℕ) → AllHold top me (rowAt rows) (facts (Help (TryMark3 right) f) hs) → LawfulHelp f hs (tryMark-3 rows f right)
+    pub tryMark-3-lawful : (right : ℕ) → AllHold top me (rowAt rows) (facts (Help (TryMark3 right) f) hs)
+        → LawfulHelp f hs (tryMark-3 rows f right)
     unfolding tryMark-3 cas heldRow
     tryMark-3-lawful right (fits, (helping, rest)) =
         if-known (LawfulHelp f hs) (flaggedOnly (succAt rows (f .del)))
@@ -125,7 +126,8 @@ module _ (top me : ℕ) (rows : List Row) (sound : Structure top (rowAt rows)) w
         read top me rows _ _ hs _ refl refl (fits, (helping, (record { mark-set = marked; right-is = refl }, rest)))
 
   -- The outermost help returns to its caller. A delete that set the flag has removed its row.
-  returns-lawful : (key element prev del right : ℕ) (caller : HelpCaller) → suc key < top → Helping (rowAt rows) prev del → Frozen (rowAt rows) del right
+  returns-lawful : (key element prev del right : ℕ) (caller : HelpCaller) → suc key < top → Helping (rowAt rows) prev del
+      → Frozen (rowAt rows) del right
       → AllHold top me (rowAt rows) (helpCallerFacts key element del caller)
       → Lawful top me rows (heldInHelp caller) (removedInHelp caller) [] (goWriting (helpMarked-2 rows prev del right) (helpFlaggedReturns rows key element caller))
   unfolding helpFlaggedReturns delete-7 heldRow
@@ -140,8 +142,10 @@ module _ (top me : ℕ) (rows : List Row) (sound : Structure top (rowAt rows)) w
       help-marked-lawful top me rows sound _ _ [] prev del right frozen _ Keep tt refl tt refl
 
   -- HelpFlagged, line 4: the second access of its HelpMarked, and the return.
-  pub helpFlagged-4-helpMarked-2-lawful : (f : HelpFrame) (count : ℕ) (last : Pending) (hs : List Pending) (right : ℕ) → Newest count last hs
-      → AllHold top me (rowAt rows) (facts (Help (HelpMarked2 right) f) hs) → LawfulHelp f hs (helpFlagged-4-helpMarked-2 rows count last f right)
+  pub helpFlagged-4-helpMarked-2-lawful : (f : HelpFrame) (count : ℕ) (last : Pending) (hs : List Pending) (right : ℕ)
+      → Newest count last hs
+      → AllHold top me (rowAt rows) (facts (Help (HelpMarked2 right) f) hs)
+      → LawfulHelp f hs (helpFlagged-4-helpMarked-2 rows count last f right)
   unfolding helpFlagged-4-helpMarked-2 heldRow
   helpFlagged-4-helpMarked-2-lawful f count last hs right (nothing-pending none empty) known =
       rw (eq-eqb count 0 none)

@@ -59,7 +59,8 @@ module _ (top : ℕ) (rowsAt : ℕ → List Row) (who : ℕ → ℕ) (sound : (i
 
   -- Lines 20 to 22.
   pub insert-20-tells : (k e new prev next : ℕ) → suc k < top → markOf (rowAt (rowsAt t)) prev ≡ false
-      → RegularWithin (λ (i : ℕ). rowAt (rowsAt i)) t u prev next → Tells me rowsAt t u (insert k e) 0 (insert-20 (rowsAt u) k e new prev next)
+      → RegularWithin (λ (i : ℕ). rowAt (rowsAt i)) t u prev next
+      → Tells me rowsAt t u (insert k e) 0 (insert-20 (rowsAt u) k e new prev next)
   unfolding insert-20
   insert-20-tells k e new prev next fits unmarked was =
       if-known (Tells me rowsAt t u (insert k e) 0) (hasKey (rowsAt u) prev k)

@@ -59,7 +59,8 @@ module _ (top me : ℕ) (rows : List Row) (sound : Structure top (rowAt rows)) (
   not-tail x k fits h e = omega (arith, h .low, ap (rankOf top (rowAt rows)) e, tail-rank top (rowAt rows))
 
   -- Lines 2 and 3.
-  pub insert-2-lawful : (k e prev next : ℕ) → suc k < top → hs ≡ [] → AtMost top (rowAt rows) prev (suc k) → Above top (rowAt rows) next (suc k)
+  pub insert-2-lawful : (k e prev next : ℕ) → suc k < top → hs ≡ [] → AtMost top (rowAt rows) prev (suc k)
+      → Above top (rowAt rows) next (suc k)
       → Lawful top me rows noRowHeld 0 hs (insert-2 rows k e prev next)
   unfolding insert-2 heldRow
   insert-2-lawful k e prev next fits alone low high =

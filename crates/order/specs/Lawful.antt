@@ -101,7 +101,8 @@ with-removal l removal = record { move = l .move; known = l .known; named = l .n
 
 -- ---- A read ----
 
-pub read-stacking : (top me : ℕ) (rows : List Row) (held removed : ℕ) (hs : List Pending) (line : Line) (s : Stack) → Pushable (rowAt rows) hs s
+pub read-stacking : (top me : ℕ) (rows : List Row) (held removed : ℕ) (hs : List Pending) (line : Line) (s : Stack)
+    → Pushable (rowAt rows) hs s
     → heldRow line ≡ held → removedRow line ≡ removed → AllHold top me (rowAt rows) (facts line (stackAfter hs s))
     → Lawful top me rows held removed hs (record { line = line; write = NoRow; stack = s })
 unfolding written

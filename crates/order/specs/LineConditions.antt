@@ -128,7 +128,8 @@ same-bit-refl false = refl
 
 pub same-succ-refl : (s t : Succ) → s ≡ t → sameSucc s t ≡ true
 unfolding sameSucc
-same-succ-refl s t e = rw (ap (λ (u : Succ). sameSucc s u) (sym e)) (rw (eq-eqb (s .right) (s .right) refl, same-bit-refl (s .mark), same-bit-refl (s .flag)))
+same-succ-refl s t e =
+    rw (ap (λ (u : Succ). sameSucc s u) (sym e)) (rw (eq-eqb (s .right) (s .right) refl, same-bit-refl (s .mark), same-bit-refl (s .flag)))
 
 pub flagged-only : (s : Succ) → flaggedOnly s ≡ true → s .flag ≡ true
 unfolding flaggedOnly

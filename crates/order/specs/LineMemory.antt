@@ -33,8 +33,10 @@ module _ (top : ℕ) (rowsAt : ℕ → List Row) (who : ℕ → ℕ) (sound : (i
   line-tells count last hs (Search l f) newest busy known (unmarked, was, past) =
       search-tells top rowsAt who sound move t u since me hs f l known unmarked was past
   line-tells count last hs (Insert l f) newest busy known past = insert-tells top rowsAt who sound move t u since me hs f l known past
-  line-tells count last hs (Flag l f) newest busy known (unmarked, past) = flag-tells top rowsAt who sound move t u since me hs f l known unmarked past
-  line-tells count last hs (Help l f) newest busy known past = help-tells top rowsAt who sound move t u since me f past l count last hs newest known
+  line-tells count last hs (Flag l f) newest busy known (unmarked, past) =
+      flag-tells top rowsAt who sound move t u since me hs f l known unmarked past
+  line-tells count last hs (Help l f) newest busy known past =
+      help-tells top rowsAt who sound move t u since me f past l count last hs newest known
 
   pub effect-tells : (k : Worker) → idle (k .line) ≡ false → AllHold top me (rowAt (rowsAt u)) (facts (k .line) (stackOf k))
       → Past (λ (i : ℕ). rowAt (rowsAt i)) t u (k .line)

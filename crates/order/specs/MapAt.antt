@@ -32,7 +32,8 @@ pub record LinkOf (top w : ℕ) (R R' : Table) (x : ℕ) : Type 0 where
   pub next : ℕ
   pub move : LinkMove top w R R' prev x next
 
-pub link-of : {top w v : ℕ} {R R' : Table} {x : ℕ} → Move top w R R' → standingOf R x ≡ Held v → standingOf R' x ≡ Linked → LinkOf top w R R' x
+pub link-of : {top w v : ℕ} {R R' : Table} {x : ℕ} → Move top w R R' → standingOf R x ≡ Held v → standingOf R' x ≡ Linked
+    → LinkOf top w R R' x
 link-of (nothing e) h k = absurd (held-not-linked h (cc))
 link-of {top} {w} {R = R} {R' = R'} {x = x} (links {prev = prev} {new = new} {next = next} m) h k = elim (ℕ-discrete x new) [
   | yes e ↦ record { prev = prev; next = next; move = subst (λ (y : ℕ). LinkMove top w R R' prev y next) (sym e) m }

@@ -68,7 +68,8 @@ module _ {top : ℕ} {start : Catalogue} {calls : List Call} (ready : Ready top 
       go (steps w a taken) = (w, a)
 
   -- a delete that removes a row ends with Removed
-  pub ends-removed : (s w code key element T f y : ℕ) (a : Answer) → Running ready s w code key element T → removedAt ready T w ≡ y → y ≢ noRowRemoved
+  pub ends-removed : (s w code key element T f y : ℕ) (a : Answer) → Running ready s w code key element T → removedAt ready T w ≡ y
+      → y ≢ noRowRemoved
       → Ends ready s w code key element f a → (T ≤ f) × (a ≡ Removed (TableAt ready f y .element))
   ends-removed s w code key element T f y a r is some e = go (decLe T f)
     where
@@ -209,9 +210,14 @@ module _ {top : ℕ} {start : Catalogue} {calls : List Call} (ready : Ready top 
       let same = ends-removed s w' code' key' element' T f y a r is some e' .1 in
       (ap reading same, λ h. contradiction (cc))
 
+  -- at the end worker w removes a row that is marked
+  abbrev pub RemovesMarked : ℕ → Type 0
+  RemovesMarked w = (removedAt ready (length calls) w ≢ noRowRemoved)
+      × (markOf (TableAt ready (length calls)) (removedAt ready (length calls) w) ≡ true)
+
   -- a request that changes the map and is unfinished at the end is a delete whose row is marked
   pub change-unfinished : (s T w code key element : ℕ) → Change s T → Running ready s w code key element (length calls)
-      → (removedAt ready (length calls) w ≢ noRowRemoved) × (markOf (TableAt ready (length calls)) (removedAt ready (length calls) w) ≡ true)
+      → RemovesMarked w
   change-unfinished s T w code key element (adds w' code' key' element' e') q =
       let e = by-request (λ v c k x. Ends ready s v c k x T Added) s w code key element w' code' key' element' (q .request) (e' .running .request) e' in
       absurd (ended-not-running ready s w T (length calls) Added (e .finished) (e .finished .step .inside) (q .busy))

@@ -134,7 +134,8 @@ module _ (R : ℕ → Table) (t u : ℕ) where
 
   pub past-still : (l : Line) → Past R t u l → Past R t (suc u) l
   past-still (Idle a) h = tt
-  past-still (Search l f) (unmarked, line, caller) = (unmarked, search-still l (f .curr) line, search-caller-still (f .key) (f .caller) caller)
+  past-still (Search l f) (unmarked, line, caller) =
+      (unmarked, search-still l (f .curr) line, search-caller-still (f .key) (f .caller) caller)
   past-still (Insert l f) h = h
   past-still (Flag l f) (unmarked, target) = (unmarked, target-still target)
   past-still (Help l f) h = help-caller-still (f .key) (f .caller) h

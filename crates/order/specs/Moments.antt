@@ -106,7 +106,8 @@ module _ {top : ℕ} {start : Catalogue} {calls : List Call} (ready : Ready top 
     removes : (e : ℕ) → a ≡ Removed e → RemovesRow (TableAt ready f) (removedAt ready f w) e → Kind s w f o a
 
   module _ (s w f : ℕ) (accepts : Accepts start calls f (Step w)) where
-    kind-of : (o : Operation) (a : Answer) → Answered w (TableAt ready) (suc s) f (TableAt ready (suc f)) (removedAt ready f w) o a → Kind s w f o a
+    kind-of : (o : Operation) (a : Answer) → Answered w (TableAt ready) (suc s) f (TableAt ready (suc f)) (removedAt ready f w) o a
+        → Kind s w f o a
     kind-of o NoAnswer h = absurd h
     kind-of (search k) (Found e) h = reads-only refl (has-reads s f w accepts k e _ _ (λ m is. found-agrees m k e is) h)
     kind-of (insert k x) (Found e) h = absurd h
@@ -118,7 +119,8 @@ module _ {top : ℕ} {start : Catalogue} {calls : List Call} (ready : Ready top 
     kind-of (insert k x) Added h = adds refl (link-agrees ready f w k x h)
     kind-of (delete k) Added h = absurd h
     kind-of (search k) Duplicate h = absurd h
-    kind-of (insert k x) Duplicate h = reads-only refl (has-reads s f w accepts k (h .0) _ _ (λ m is. duplicate-agrees m k (h .0) x is) (h .1))
+    kind-of (insert k x) Duplicate h =
+        reads-only refl (has-reads s f w accepts k (h .0) _ _ (λ m is. duplicate-agrees m k (h .0) x is) (h .1))
     kind-of (delete k) Duplicate h = absurd h
     kind-of (search k) (Removed e) h = absurd h
     kind-of (insert k x) (Removed e) h = absurd h

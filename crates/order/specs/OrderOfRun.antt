@@ -149,7 +149,8 @@ module _ {top : ℕ} {start : Catalogue} {calls : List Call} (ready : Ready top 
       → List·Memᴰ (record { request = s; moment = T }) (orderFrom n t)
   unfolding orderFrom
   in-order-from zero t s T low high inside belongs = absurd (omega arith)
-  in-order-from (suc n) t s T low high inside belongs = go (ℕ-discrete T t) belongs (λ h. in-order-from n (suc t) s T h (omega arith) inside belongs)
+  in-order-from (suc n) t s T low high inside belongs =
+      go (ℕ-discrete T t) belongs (λ h. in-order-from n (suc t) s T h (omega arith) inside belongs)
     where
       now : BelongsTo t s → List·Memᴰ (record { request = s; moment = t }) (orderFrom (suc n) t)
       now (inl h) = Memᴰ·append-left _ (in-placed start calls t s (readers t) (in-picked (readsNow t) s (length calls) inside h))
@@ -184,12 +185,14 @@ module _ {top : ℕ} {start : Catalogue} {calls : List Call} (ready : Ready top 
         | inr h ↦ later p q (inl (reader p m .1)) (reader p m .0) (stands n (suc t) q h) e
       ])
     where
-      reader : (p : Placed start calls) → List·Memᴰ p (placedAt start calls t (readers t)) → (p .moment ≡ t) × (readsNow t (p .request) ≡ true)
+      reader : (p : Placed start calls) → List·Memᴰ p (placedAt start calls t (readers t))
+          → (p .moment ≡ t) × (readsNow t (p .request) ≡ true)
       reader p m =
           let h = of-placed start calls t (readers t) p m in
           (h .0, picked-passes (readsNow t) (p .request) (length calls) (h .1) .1)
 
-      changer : (p : Placed start calls) → List·Memᴰ p (placedAt start calls t (changers t)) → (p .moment ≡ t) × (changesNow t (p .request) ≡ true)
+      changer : (p : Placed start calls) → List·Memᴰ p (placedAt start calls t (changers t))
+          → (p .moment ≡ t) × (changesNow t (p .request) ≡ true)
       changer p m =
           let h = of-placed start calls t (changers t) p m in
           (h .0, picked-passes (changesNow t) (p .request) (length calls) (h .1) .1)
@@ -203,7 +206,8 @@ module _ {top : ℕ} {start : Catalogue} {calls : List Call} (ready : Ready top 
 
   change-entry : (s T : ℕ) → Change ready s T → Entry start calls (record { request = s; moment = T })
   change-entry s T (adds w code key element e) = is-finished w code key element T _ (e .running .request) (e .finished) (omega arith)
-  change-entry s T (removes w code key element y r is some unmarked marked) = go (outcome ready s w code key element T y r is some unmarked marked)
+  change-entry s T (removes w code key element y r is some unmarked marked) =
+      go (outcome ready s w code key element T y r is some unmarked marked)
     where
       go : Outcome ready s w code key element T y → Entry start calls (record { request = s; moment = T })
       go (finishes f h e) = is-finished w code key element f _ (r .request) (e .finished) h

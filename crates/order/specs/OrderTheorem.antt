@@ -54,7 +54,8 @@ module _ {top : ℕ} (rows : List Row) (small : length rows ≤ 128) (sound : St
 
   -- the map of the table holds exactly the unmarked saves on the chain
   pub map-holds-chain : (m : PlainMap) → IsMapOf (rowAt rows) m → HoldsTheChain m rows
-  map-holds-chain m is key element = (λ q. saved key element (go (m key) refl (is .entry key) q), λ u. map-has sound is key element (was-saved key element u))
+  map-holds-chain m is key element =
+      (λ q. saved key element (go (m key) refl (is .entry key) q), λ u. map-has sound is key element (was-saved key element u))
     where
       go : (o : Option ℕ) → m key ≡ o → Entry (rowAt rows) key o → m key ≡ some element → Has (rowAt rows) key element
       go none e h q = contradiction (cc)
@@ -107,7 +108,8 @@ pub record DemandFrom (start : Catalogue) (calls : List Call) (before : PlainMap
   pub ends : HoldsTheChain after (run start calls .rows)
   pub full : FullExactly start calls
 
-pub demand-from : {top : ℕ} (start : Catalogue) (calls : List Call) (before : PlainMap) → Ready top start calls → HoldsTheChain before (start .rows)
+pub demand-from : {top : ℕ} (start : Catalogue) (calls : List Call) (before : PlainMap) → Ready top start calls
+    → HoldsTheChain before (start .rows)
     → DemandFrom start calls before
 unfolding stateAt run
 demand-from start calls before ready holds = record {
@@ -145,7 +147,8 @@ rest-ready {start = start} sound at-rest unflagged fits = record {
   fits = fits;
 }
 
-pub demand-at-rest : {top : ℕ} (start : Catalogue) (calls : List Call) (before : PlainMap) → Sound top start → AllIdle start → NoneFlagged start
+pub demand-at-rest : {top : ℕ} (start : Catalogue) (calls : List Call) (before : PlainMap) → Sound top start → AllIdle start
+    → NoneFlagged start
     → KeysFit top calls → HoldsTheChain before (start .rows) → DemandFrom start calls before
 demand-at-rest start calls before sound at-rest unflagged fits holds =
     demand-from start calls before (rest-ready sound at-rest unflagged fits) holds

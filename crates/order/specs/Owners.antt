@@ -90,7 +90,8 @@ module _ (top w : ℕ) (R : Table) where
 -- ---- Every event keeps the owners ----
 
 -- a flag that stays keeps its row
-flag-keeps-right : {top u : ℕ} {R R' : Table} → Move top u R R' → (p : ℕ) → flagOf R p ≡ true → flagOf R' p ≡ true → rightOf R' p ≡ rightOf R p
+flag-keeps-right : {top u : ℕ} {R R' : Table} → Move top u R R' → (p : ℕ) → flagOf R p ≡ true → flagOf R' p ≡ true
+    → rightOf R' p ≡ rightOf R p
 flag-keeps-right (nothing e) p h h' = cc
 flag-keeps-right (links m) p h h' = m .right-other p (λ e. clash h (cc (m .prev-unflagged))) (λ e. clash h (cc (m .new-unflagged)))
 flag-keeps-right (marks m) p h h' = m .right= p
@@ -175,7 +176,8 @@ module _ {top : ℕ} {c c' : Catalogue} (sound : Sound top c) (owned : Owned c) 
 
     step-keeps-owned : Owned c'
     step-keeps-owned = record {
-      owner = subst (λ (rows : List Row). (p : ℕ) → flagOf (rowAt rows) p ≡ true → Owner c' (rightOf (rowAt rows) p)) (sym (s .rows-written))
+      owner =
+          subst (λ (rows : List Row). (p : ℕ) → flagOf (rowAt rows) p ≡ true → Owner c' (rightOf (rowAt rows) p)) (sym (s .rows-written))
           (step-owner (rowAt (written (c .rows) (effectIn c w .write))) (step-lawful top c c' sound w s .move) (step-lawful top c c' sound w s .removal));
       only = λ u v row some mine theirs. one u v row some mine theirs (ℕ-discrete u w) (ℕ-discrete v w);
     }
@@ -186,7 +188,8 @@ module _ {top : ℕ} {c c' : Catalogue} (sound : Sound top c) (owned : Owned c) 
             (sym now-removes ∙ ap (removedBy c') (sym a) ∙ mine) (sym (still-removes v b) ∙ theirs))
         one u v row some mine theirs (no a) (yes b) = absurd (not-shared _ (step-lawful top c c' sound w s .removal) u row a some
             (sym now-removes ∙ ap (removedBy c') (sym b) ∙ theirs) (sym (still-removes u a) ∙ mine))
-        one u v row some mine theirs (no a) (no b) = owned .only u v row some (sym (still-removes u a) ∙ mine) (sym (still-removes v b) ∙ theirs)
+        one u v row some mine theirs (no a) (no b) =
+            owned .only u v row some (sym (still-removes u a) ∙ mine) (sym (still-removes v b) ∙ theirs)
 
 pub event-keeps-owned : {top : ℕ} {c : Catalogue} {x : Call} {s : Stepped} → Sound top c → Owned c → Event c x s → Owned (s .state)
 event-keeps-owned sound owned (refused r v same) = subst Owned (sym same) owned

@@ -35,7 +35,8 @@ module _ (p : ℕ → Bool) where
       more : (s < n) × (p s ≡ true) → (s < suc n) × (p s ≡ true)
       more (below, passes) = (omega arith, passes)
 
-      go : (p n ≡ true) ⊎ (p n ≡ false) → Among s (picked p (suc n)) → (Among s (picked p n) → (s < n) × (p s ≡ true)) → (s < suc n) × (p s ≡ true)
+      go : (p n ≡ true) ⊎ (p n ≡ false) → Among s (picked p (suc n)) → (Among s (picked p n) → (s < n) × (p s ≡ true))
+          → (s < suc n) × (p s ≡ true)
       go (inl yes-n) k rest = elim (List·Memᴰ·cases-cons (rw (yes-n, picked) at k)) [
         | inl e ↦ (omega arith, ap p e ∙ yes-n)
         | inr q ↦ more (rest q)

@@ -46,7 +46,8 @@ pub record RemovesSave (R : Table) (o : Operation) (row : ℕ) : Type 0 where
   pub save : SaveOf R row key
 
 module _ (top w : ℕ) (R : Table) where
-  target-removed : (l : HelpLine) (f : HelpFrame) (hs : List Pending) (caller : HelpCaller) → f .caller ≡ caller → AllHold top w R (facts (Help l f) hs)
+  target-removed : (l : HelpLine) (f : HelpFrame) (hs : List Pending) (caller : HelpCaller) → f .caller ≡ caller
+      → AllHold top w R (facts (Help l f) hs)
       → removedInHelp caller ≢ noRowRemoved → RemovesSave R (operationOf (Help l f)) (removedInHelp caller)
   target-removed l f hs (Insert8 row new) e known some = absurd (some refl)
   target-removed l f hs (Insert16 row new) e known some = absurd (some refl)
@@ -107,7 +108,8 @@ module _ {top : ℕ} {start : Catalogue} {calls : List Call} (ready : Ready top 
   answer-removed w t u R' y k Full some h = absurd h
 
   -- a delete that removes row y ends with Removed and the element of y
-  pub removal-answer : (s w code key element f y : ℕ) (a : Answer) → Ends ready s w code key element f a → removedAt ready f w ≡ y → y ≢ noRowRemoved
+  pub removal-answer : (s w code key element f y : ℕ) (a : Answer) → Ends ready s w code key element f a → removedAt ready f w ≡ y
+      → y ≢ noRowRemoved
       → a ≡ Removed (TableAt ready f y .element)
   removal-answer s w code key element f y a e is some =
       let m = removes-save s w code key element f y (e .running) is some in
@@ -125,7 +127,8 @@ module _ {top : ℕ} {start : Catalogue} {calls : List Call} (ready : Ready top 
     pub unmarked : markOf (TableAt ready time) y ≡ false
     pub marked : markOf (TableAt ready (suc time)) y ≡ true
 
-  claim-marked : (s w code key element u y : ℕ) → Running ready s w code key element u → Claimed ready s w u y → markOf (TableAt ready u) y ≡ true
+  claim-marked : (s w code key element u y : ℕ) → Running ready s w code key element u → Claimed ready s w u y
+      → markOf (TableAt ready u) y ≡ true
       → MarkedAt s w code key element u y
   claim-marked s w code key element u y r c marked =
       let m = marked-within (TableAt ready) (mover-at ready) (structure-at ready) (move-at ready) (suc (c .at)) u y (c .before) clear marked in

@@ -65,7 +65,8 @@ module _ {top : ℕ} {start : Catalogue} {calls : List Call} (ready : Ready top 
           answers-then _ (r .worker) (r .code) (r .key) (r .element) (r .finish) (r .answer) (r .ends-so .running .request) (r .ends-so .finished)
           (reading-not-full h) agrees rest
 
-  change-then : {n : PlainMap} {ps : List (Placed start calls)} (s t : ℕ) → Change ready s t → Replays start calls (mapAt ready (suc t)) ps n
+  change-then : {n : PlainMap} {ps : List (Placed start calls)} (s t : ℕ) → Change ready s t
+      → Replays start calls (mapAt ready (suc t)) ps n
       → Replays start calls (mapAt ready t) (record { request = s; moment = t } ∷ ps) n
   change-then s t (adds w code key element e) rest =
       answers-then _ w code key element t Added (e .running .request) (e .finished) (λ h. contradiction (cc))
@@ -87,10 +88,12 @@ module _ {top : ℕ} {start : Catalogue} {calls : List Call} (ready : Ready top 
       → Replays start calls (mapAt ready t) ps n → Replays start calls (mapAt ready t) (placedAt start calls t xs ++ ps) n
   unfolding placedAt
   reads-replay t [] read rest = rest
-  reads-replay t (s ∷ xs) read rest = read-then s t (read s (List·Memᴰ·head refl)) (reads-replay t xs (λ u m. read u (List·Memᴰ·tail m)) rest)
+  reads-replay t (s ∷ xs) read rest =
+      read-then s t (read s (List·Memᴰ·head refl)) (reads-replay t xs (λ u m. read u (List·Memᴰ·tail m)) rest)
 
   -- at most one request changes the map at a step, and if none does it stays
-  changes-replay : {n : PlainMap} {ps : List (Placed start calls)} (t : ℕ) (xs : List ℕ) → ((s : ℕ) → Among s xs → Change ready s t) → Distinct xs
+  changes-replay : {n : PlainMap} {ps : List (Placed start calls)} (t : ℕ) (xs : List ℕ) → ((s : ℕ) → Among s xs → Change ready s t)
+      → Distinct xs
       → ((s : ℕ) → Change ready s t → Among s xs) → Replays start calls (mapAt ready (suc t)) ps n
       → Replays start calls (mapAt ready t) (placedAt start calls t xs ++ ps) n
   unfolding placedAt

@@ -16,7 +16,8 @@ use Rattle.order.specs.SoundKept.{step-lawful}
 use Rattle.order.specs.Demand.{stateAt, lineAt, Accepts, Request, BusySince, Finished}
 use Rattle.order.specs.Memory.{Past, past-still, operationOf, Answered, GoesOn, NextLine, Tells}
 use Rattle.order.specs.LineMemory.{effect-tells}
-use Rattle.order.specs.Time.{Ready, Happening, nothing-happens, submits, steps, happening, sound-at, structure-at, mover-at, move-at, submit-taken, TableAt}
+use Rattle.order.specs.Time.{Ready, Happening, nothing-happens, submits, steps, happening, sound-at, structure-at, mover-at, move-at, submit-taken, TableAt, RowsAt}
+use Rattle.order.specs.Table.{Table}
 use Rattle.kept.specs.Conditions.{clash}
 use Rattle.kept.specs.Ways.{effectIn, lineOf}
 use Rattle.model.specs.State.{if_then_else_, rowAt, workerAt, idle}
@@ -32,6 +33,7 @@ use Rattle.model.specs.declared.Line.{Line}
 use Rattle.model.specs.declared.Line.the-variants.{Idle, Search, Insert, Flag, Help}
 use Rattle.model.specs.declared.Call.{Call}
 use Rattle.model.specs.declared.Call.the-variants.{Step}
+use Rattle.model.specs.declared.Effect.{Effect}
 
 -- ---- The first line of a request ----
 
@@ -43,7 +45,10 @@ unfolding firstLine operation
 first-line P code key element s i d = go (eqb code 1) (eqb code 2)
   where
     go : (a b : Bool)
-        → P (if a then callSearchFrom key 0 0 Search1 else if b then callSearchFrom key element 0 Insert1 else callSearchFrom key 0 0 Delete1)
+        → P
+        (if a then callSearchFrom key 0 0 Search1
+        else if b then callSearchFrom key element 0 Insert1
+        else callSearchFrom key 0 0 Delete1)
         (if a then search key else if b then insert key element else delete key)
     go true b = s
     go false true = i
@@ -149,26 +154,30 @@ module _ {top : ℕ} {start : Catalogue} {calls : List Call} (ready : Ready top 
         (inr (ap removedRow same))
 
     pub step-tells : idle (lineAt start calls u w) ≡ false
-        → Tells w (λ (i : ℕ). stateAt start calls i .rows) (suc s) u (operationOf (lineAt start calls u w)) (removedAt u w) (effectIn (stateAt start calls u) w)
+        → Tells w (RowsAt ready) (suc s) u (operationOf (lineAt start calls u w)) (removedAt u w) (effectIn (stateAt start calls u) w)
     step-tells busy =
-        effect-tells top (λ (i : ℕ). stateAt start calls i .rows) (mover-at ready) (structure-at ready) (move-at ready) (suc s) u (r .since) w
+        effect-tells top (RowsAt ready) (mover-at ready) (structure-at ready) (move-at ready) (suc s) u (r .since) w
         (workerAt (stateAt start calls u .workers) w) busy (sound-at ready u .known w) (r .past)
 
+    abbrev effectNow : Effect
+    effectNow = effectIn (stateAt start calls u) w
+
+    abbrev TableAfter : Table
+    TableAfter = rowAt (written (RowsAt ready u) (effectNow .write))
+
     module _ (accepts : Accepts start calls u (Step w)) (taken : StepTaken (stateAt start calls u) (stateAt start calls (suc u)) w) where
-      next-line : lineAt start calls (suc u) w ≡ effectIn (stateAt start calls u) w .line
+      next-line : lineAt start calls (suc u) w ≡ effectNow .line
       next-line = ap (λ (k : Worker). k .line) (taken .worker .now) ∙ line-after _ _
 
       claim-after : (removedAt (suc u) w ≡ noRowRemoved) ⊎ Claimed s w (suc u) (removedAt (suc u) w)
       claim-after = rw next-line (go (step-lawful top _ _ (sound-at ready u) w taken .removal) (r .claim))
         where
-          now : removedAt (suc u) w ≡ removedRow (effectIn (stateAt start calls u) w .line)
+          now : removedAt (suc u) w ≡ removedRow (effectNow .line)
           now = ap removedRow next-line
 
-          go : Removal (TableAt ready u) (rowAt (written (stateAt start calls u .rows) (effectIn (stateAt start calls u) w .write))) (removedAt u w)
-              (removedRow (effectIn (stateAt start calls u) w .line))
+          go : Removal (TableAt ready u) TableAfter (removedAt u w) (removedRow (effectNow .line))
               → (removedAt u w ≡ noRowRemoved) ⊎ Claimed s w u (removedAt u w)
-              → (removedRow (effectIn (stateAt start calls u) w .line) ≡ noRowRemoved)
-              ⊎ Claimed s w (suc u) (removedRow (effectIn (stateAt start calls u) w .line))
+              → (removedRow (effectNow .line) ≡ noRowRemoved) ⊎ Claimed s w (suc u) (removedRow (effectNow .line))
           go (goes-on same no-new) (inl none) = inl (same ∙ none)
           go (goes-on same no-new) (inr c) =
               inr (subst (Claimed s w (suc u)) (sym same) (claim-further c (now ∙ same)))
@@ -179,7 +188,7 @@ module _ {top : ℕ} {start : Catalogue} {calls : List Call} (ready : Ready top 
             later = r .since;
             before = omega arith;
             step = accepts;
-            flag = subst (λ (rows : List Row). FlagMove (TableAt ready u) (rowAt rows) prev (removedRow (effectIn (stateAt start calls u) w .line)))
+            flag = subst (λ (rows : List Row). FlagMove (TableAt ready u) (rowAt rows) prev (removedRow (effectNow .line)))
                 (sym (taken .rows-written)) flag;
             removes = λ j low high.
                 let e : j ≡ suc u = omega arith in
@@ -187,8 +196,7 @@ module _ {top : ℕ} {start : Catalogue} {calls : List Call} (ready : Ready top 
           })
 
       goes : (l : Line) → idle l ≡ false → lineAt start calls (suc u) w ≡ l
-          → GoesOn w (TableAt ready) (suc s) u (rowAt (written (stateAt start calls u .rows) (effectIn (stateAt start calls u) w .write))) (removedAt u w)
-          (operationOf (lineAt start calls u w)) l
+          → GoesOn w (TableAt ready) (suc s) u TableAfter (removedAt u w) (operationOf (lineAt start calls u w)) l
           → Continues s w code key element u
       goes l busy is g = runs
           (record {
@@ -202,11 +210,10 @@ module _ {top : ℕ} {start : Catalogue} {calls : List Call} (ready : Ready top 
           (elim (g .removed-same) [ inl none ↦ inl none | inr same ↦ inr (ap removedRow is ∙ same) ])
 
       stepped-on : Continues s w code key element u
-      stepped-on = go (effectIn (stateAt start calls u) w .line) next-line (step-tells (taken .was-busy) .next)
+      stepped-on = go (effectNow .line) next-line (step-tells (taken .was-busy) .next)
         where
           go : (l : Line) → lineAt start calls (suc u) w ≡ l
-              → NextLine w (TableAt ready) (suc s) u (rowAt (written (stateAt start calls u .rows) (effectIn (stateAt start calls u) w .write))) (removedAt u w)
-              (operationOf (lineAt start calls u w)) l
+              → NextLine w (TableAt ready) (suc s) u TableAfter (removedAt u w) (operationOf (lineAt start calls u w)) l
               → Continues s w code key element u
           go (Idle a) is answered = ends-now a (record {
             running = r;

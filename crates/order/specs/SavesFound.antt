@@ -85,7 +85,8 @@ module _ {top : ℕ} {start : Catalogue} {calls : List Call} (ready : Ready top 
       d = deletes ready r v code key element t y run is some-row
 
       agrees : Agrees (mapAt ready t) (delete key) (Removed (TableAt ready t y .element)) (mapAt ready (suc t))
-      agrees = rw (d .operation-same ∙ delete-is key element) at (removal-agrees ready r v code key element t y run is some-row unmarked marked)
+      agrees =
+          rw (d .operation-same ∙ delete-is key element) at (removal-agrees ready r v code key element t y run is some-row unmarked marked)
 
       go : Dec (k ≡ key) → mapAt ready (suc t) k ≡ some e
       go (no other) = other-key (mapAt ready t) (mapAt ready (suc t)) k e (delete key) _ agrees other held
@@ -124,7 +125,8 @@ module _ {top : ℕ} {start : Catalogue} {calls : List Call} (ready : Ready top 
       found-with v q h _ _ a later (rw (search-is k x) at (ended ready q v 1 k x h a asked ends-so .answered))
 
 -- For any calls from the empty catalogue.
-pub stored-save-found : (calls : List Call) (s w k e f : ℕ) → Request emptyCatalogue calls s w 2 k e → Finished emptyCatalogue calls s w f Added
+pub stored-save-found : (calls : List Call) (s w k e f : ℕ) → Request emptyCatalogue calls s w 2 k e
+    → Finished emptyCatalogue calls s w f Added
     → NoDeleteFrom emptyCatalogue calls f k
     → (q v x h : ℕ) (a : Answer) → Request emptyCatalogue calls q v 1 k x → f < q → Finished emptyCatalogue calls q v h a → a ≡ Found e
 stored-save-found calls s w k e f request finished no-delete = found-after-added (empty-ready calls) s w k e f request finished no-delete

@@ -88,7 +88,8 @@ module _ (top : ℕ) (rowsAt : ℕ → List Row) (who : ℕ → ℕ) (sound : (i
         record { linked = before .next-linked; high = reaches-rank top (rowsAt u) f next (common .0) .if-false far }
 
     -- Line 2.
-    searchFrom-2-tells : (next : ℕ) → RegularWithin (λ (i : ℕ). rowAt (rowsAt i)) t u (f .curr) next → Below top (rowAt (rowsAt u)) (f .curr) next
+    searchFrom-2-tells : (next : ℕ) → RegularWithin (λ (i : ℕ). rowAt (rowsAt i)) t u (f .curr) next
+        → Below top (rowAt (rowsAt u)) (f .curr) next
         → TellsSearch (searchFrom-2 (rowsAt u) f next)
     unfolding searchFrom-2
     searchFrom-2-tells next was before =
@@ -97,7 +98,8 @@ module _ (top : ℕ) (rowsAt : ℕ → List Row) (who : ℕ → ℕ) (sound : (i
         (λ far. searchFrom-10-tells next was (beyond next before far))
 
     -- Lines 7 and 8: next becomes curr, and was not marked at first.
-    searchFrom-7-tells : (next : ℕ) → RegularWithin (λ (i : ℕ). rowAt (rowsAt i)) t u (f .curr) next → Below top (rowAt (rowsAt u)) (f .curr) next
+    searchFrom-7-tells : (next : ℕ) → RegularWithin (λ (i : ℕ). rowAt (rowsAt i)) t u (f .curr) next
+        → Below top (rowAt (rowsAt u)) (f .curr) next
         → markOf (rowAt (rowsAt t)) next ≡ false → TellsSearch (searchFrom-7 (rowsAt u) f next)
     unfolding searchFrom-7
     searchFrom-7-tells next was before next-unmarked =

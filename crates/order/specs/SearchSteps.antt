@@ -70,7 +70,8 @@ module _ (top me : ℕ) (rows : List Row) (sound : Structure top (rowAt rows)) (
     abbrev Common : Type 0
     Common = AllHold top me (rowAt rows) (facts (Search SearchFrom1 f) hs)
 
-    searchFrom-10-lawful : (next : ℕ) → Common → Above top (rowAt rows) next (reach (f .caller) (f .key)) → LawfulSearch (searchFrom-10 rows f next)
+    searchFrom-10-lawful : (next : ℕ) → Common → Above top (rowAt rows) next (reach (f .caller) (f .key))
+        → LawfulSearch (searchFrom-10 rows f next)
     unfolding searchFrom-10
     searchFrom-10-lawful next (fits, (alone, (low, rest))) high =
         returns-lawful (f .key) (f .element) (f .curr) next (f .caller) fits alone low high rest
@@ -146,7 +147,8 @@ module _ (top me : ℕ) (rows : List Row) (sound : Structure top (rowAt rows)) (
         (λ _. read top me rows _ 0 hs _ refl refl (fits, (alone, (low, (before, (marked, rest))))))
 
     -- Line 4.
-    pub searchFrom-4-lawful : (next : ℕ) → AllHold top me (rowAt rows) (facts (Search (SearchFrom4 next) f) hs) → LawfulSearch (searchFrom-4 rows f next)
+    pub searchFrom-4-lawful : (next : ℕ) → AllHold top me (rowAt rows) (facts (Search (SearchFrom4 next) f) hs)
+        → LawfulSearch (searchFrom-4 rows f next)
     unfolding searchFrom-4 heldRow
     searchFrom-4-lawful next (fits, (alone, (low, (before, (marked, rest))))) =
         if-known LawfulSearch (eqb (succAt rows (f .curr) .right) next)

@@ -48,7 +48,8 @@ idle-knows-nothing top w R l hs = if-idle (λ l. AllHold top w R (facts l hs)) (
 
 module _ (k : Worker) (e : Effect) where
   known-after : (top w : ℕ) (R : Table) → ninthHelp (k .count) (e .stack) ≡ false → length (k .helps) ≡ 8
-      → AllHold top w R (facts (e .line) (stackAfter (stackOf k) (e .stack))) → AllHold top w R (facts (workerAfter k e .line) (stackOf (workerAfter k e)))
+      → AllHold top w R (facts (e .line) (stackAfter (stackOf k) (e .stack)))
+      → AllHold top w R (facts (workerAfter k e .line) (stackOf (workerAfter k e)))
   unfolding workerAfter
   known-after top w R few size known =
       if-known (λ (x : Worker). AllHold top w R (facts (x .line) (stackOf x))) (idle (e .line))
@@ -77,7 +78,8 @@ held-before differ (marks m) x h = sym (m .standing= x) ∙ h
 held-before differ (unlinks m) x h = sym (m .standing= x) ∙ h
 held-before differ (flags m) x h = sym (m .standing= x) ∙ h
 held-before differ (backlinks m) x h = sym (m .standing= x) ∙ h
-held-before {u = u} {v = v} {R' = R'} differ (private {new = new} m) x h = ap (λ (r : Row). r .standing) (sym (m .other x (λ e. mine e (m .after)))) ∙ h
+held-before {u = u} {v = v} {R' = R'} differ (private {new = new} m) x h =
+    ap (λ (r : Row). r .standing) (sym (m .other x (λ e. mine e (m .after)))) ∙ h
   where
     mine : x ≡ new → (standingOf R' new ≡ Free) ⊎ (standingOf R' new ≡ Held u) → ⊥
     mine e (inl free) = free-not-held {w = v} free (cc)
@@ -155,7 +157,8 @@ abbrev pub KeyFits : ℕ → Call → Type 0
 KeyFits top (Submit w code key element) = suc key < top
 KeyFits top (Step w) = Unit {0}
 
-pub event-keeps-sound : (top : ℕ) {c : Catalogue} (x : Call) {s : Stepped} → Sound top c → KeyFits top x → Event c x s → Sound top (s .state)
+pub event-keeps-sound : (top : ℕ) {c : Catalogue} (x : Call) {s : Stepped} → Sound top c → KeyFits top x → Event c x s
+    → Sound top (s .state)
 event-keeps-sound top x sound fits (refused r v same) = subst (Sound top) (sym same) sound
 event-keeps-sound top {c} x {s} sound fits (submitted w code key element small is v s') =
     submit-keeps-sound top c (s .state) sound w code key element (subst (KeyFits top) is fits) s'

@@ -78,7 +78,8 @@ others-leave-held sound differ m x h = held-unchanged sound m x (apart-from-othe
 
 -- ---- Helps ----
 
-pub help-survives : {top u : ℕ} {R R' : Table} → Structure top R → Move top u R R' → (prev del : ℕ) → Helpable R prev del → Helpable R' prev del
+pub help-survives : {top u : ℕ} {R R' : Table} → Structure top R → Move top u R R' → (prev del : ℕ) → Helpable R prev del
+    → Helpable R' prev del
 help-survives sound m prev del (already-marked h e) =
     let g = grow sound m del (sound .mark-linked del h) in
     already-marked (g .mark h) (g .back h ∙ e)
@@ -102,7 +103,8 @@ help-survives sound (private m) prev del (flagged-for h e) =
     flagged-for (cc) (cc)
 
 -- a backlink once written is written again with the same row only
-pub helping-survives : {top u : ℕ} {R R' : Table} → Structure top R → Move top u R R' → (prev del : ℕ) → Helping R prev del → Helping R' prev del
+pub helping-survives : {top u : ℕ} {R R' : Table} → Structure top R → Move top u R R' → (prev del : ℕ) → Helping R prev del
+    → Helping R' prev del
 helping-survives {top = top} {R = R} {R' = R'} sound move prev del h = record { back-is = go move; help = help-survives sound move prev del (h .help) }
   where
     go : {u : ℕ} → Move top u R R' → backOf R' del ≡ prev

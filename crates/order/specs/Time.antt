@@ -49,7 +49,8 @@ fits-before top (suc i) [] fits = tt
 fits-before top (suc i) (x ∷ xs) fits = (fits .0, fits-before top i xs (fits .1))
 
 module _ (start : Catalogue) (calls : List Call) where
-  pub state-after : (i : ℕ) (x : Call) → i < length calls → getD calls i x ≡ x → stateAt start calls (suc i) ≡ call (stateAt start calls i) x .state
+  pub state-after : (i : ℕ) (x : Call) → i < length calls → getD calls i x ≡ x
+      → stateAt start calls (suc i) ≡ call (stateAt start calls i) x .state
   unfolding stateAt run
   state-after i x inside made =
       ap (run start) (take-suc calls i x inside) ∙ run-append start (take i calls) _ ∙ ap (λ (y : Call). call (run start (take i calls)) y .state) made
@@ -70,7 +71,10 @@ module _ (start : Catalogue) (calls : List Call) where
     steps : (w : ℕ) → Accepts start calls i (Step w) → StepTaken (stateAt start calls i) (stateAt start calls (suc i)) w → Happening i
 
 module _ {top : ℕ} {start : Catalogue} {calls : List Call} (ready : Ready top start calls) where
-  -- the table before the call at position i
+  -- the rows before the call at position i, and their table
+  abbrev pub RowsAt : ℕ → List Row
+  RowsAt i = stateAt start calls i .rows
+
   abbrev pub TableAt : ℕ → Table
   TableAt i = tableOf (stateAt start calls i)
 
