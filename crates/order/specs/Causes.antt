@@ -41,7 +41,8 @@ module _ {top : ℕ} {start : Catalogue} {calls : List Call} (ready : Ready top 
     same-map : mapAt ready (suc t) ≡ mapAt ready t → Cause t
     changed-by : (s : ℕ) → Change ready s t → Cause t
 
-  module _ (t w : ℕ) (accepts : Accepts start calls t (Step w)) (taken : StepTaken (stateAt start calls t) (stateAt start calls (suc t)) w) where
+  module _ (t w : ℕ) (accepts : Accepts start calls t (Step w))
+      (taken : StepTaken (stateAt start calls t) (stateAt start calls (suc t)) w) where
     -- the step that links a row finishes its add
     link-cause : (prev new next : ℕ) → LinkMove top w (TableAt ready t) (TableAt ready (suc t)) prev new next → Cause t
     link-cause prev new next m = go (current ready t w)
@@ -63,7 +64,8 @@ module _ {top : ℕ} {start : Catalogue} {calls : List Call} (ready : Ready top 
         ended-so c (runs r same) = absurd (idle-not-busy (answers c) (r .busy (suc t) (r .since) (omega arith)))
         ended-so c (ends-now a e) =
             let same : a ≡ Added = cc (answers c, e .finished .answered) in
-            changed-by (c .request) (adds w (c .code) (c .key) (c .element) (subst (Ends ready (c .request) w (c .code) (c .key) (c .element) t) same e))
+            changed-by (c .request) (adds w (c .code) (c .key) (c .element)
+            (subst (Ends ready (c .request) w (c .code) (c .key) (c .element) t) same e))
 
         go : (idle (lineAt start calls t w) ≡ true) ⊎ Current ready w t → Cause t
         go (inl h) = absurd (clash h (taken .was-busy))
@@ -80,7 +82,9 @@ module _ {top : ℕ} {start : Catalogue} {calls : List Call} (ready : Ready top 
         is = o .removes ∙ m .prev-right
 
         some : del ≢ noRowRemoved
-        some = above-not-head top (TableAt ready t) prev del (rw (m .prev-right) at (flagged-right-above (structure-at ready t) prev (m .prev-flagged)))
+        some =
+            let above = flagged-right-above (structure-at ready t) prev (m .prev-flagged) in
+            above-not-head top (TableAt ready t) prev del (rw (m .prev-right) at above)
 
         go : (idle (lineAt start calls t (o .worker)) ≡ true) ⊎ Current ready (o .worker) t → Cause t
         go (inl h) = absurd (some (sym is ∙ idle-removes-none (lineAt start calls t (o .worker)) h))

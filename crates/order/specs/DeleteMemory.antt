@@ -61,7 +61,8 @@ module _ (top : ℕ) (rowsAt : ℕ → List Row) (who : ℕ → ℕ) (sound : (i
       record {
         next = (
           refl,
-          lacks-within (λ (i : ℕ). rowAt (rowsAt i)) who sound move t u prev del k was not-tail (omega (arith, low .low)) (omega (arith, high .high)),
+          lacks-within (λ (i : ℕ). rowAt (rowsAt i)) who sound move t u prev del k was not-tail
+              (omega (arith, low .low)) (omega (arith, high .high)),
         );
         linking = inl tt;
       })

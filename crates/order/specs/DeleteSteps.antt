@@ -115,7 +115,8 @@ module _ (top me : ℕ) (rows : List Row) (sound : Structure top (rowAt rows)) (
         }
           where
             m : FlagMove (rowAt rows) (rowAt (written rows (OneRow (f .prev) flagged-row))) (f .prev) (f .target)
-            m = flag-written found (low .linked) (not-tail top me rows sound hs (f .prev) (f .key) fits low) (λ e. omega (arith, save .no-end))
+            m = flag-written found (low .linked) (not-tail top me rows sound hs (f .prev) (f .key) fits low)
+                (λ e. omega (arith, save .no-end))
                 (one-written rows (f .prev) flagged-row (linked-inside rows (f .prev) (low .linked)))
 
     -- Line 9.

@@ -84,7 +84,8 @@ module _ (top : ℕ) (rowsAt : ℕ → List Row) (who : ℕ → ℕ) (sound : (i
     helpMarked-2-tells count last hs right (nothing-pending none empty) known =
         rw (eq-eqb count 0 none)
         ((subst (λ (s : List Pending). AllHold top me (rowAt (rowsAt u)) (facts (Help (HelpMarked2 right) f) s)
-        → TellsHelp (goWriting (helpMarked-2 (rowsAt u) (f .prev) (f .del) right) (helpFlaggedReturns (rowsAt u) (f .key) (f .element) (f .caller))))
+        → TellsHelp (goWriting (helpMarked-2 (rowsAt u) (f .prev) (f .del) right)
+        (helpFlaggedReturns (rowsAt u) (f .key) (f .element) (f .caller))))
         (sym empty)
         (λ (fits, (helping, (frozen, rest))).
         returns-tell (f .key) (f .element) (f .prev) (f .del) right (f .caller) (frozen .mark-set) rest past))

@@ -15,6 +15,7 @@ use Rattle.order.specs.Writes.{one-written, mark-written, backlink-writt
 use Rattle.order.specs.Lawful.{Lawful, removedInHelp, goes-on, SharedMove, chained, read, read-stacking, shared, mark-shared, backlink-shared}
 use Rattle.order.specs.HelpMarkedSteps.{help-marked-lawful, help-ends-lawful}
 use Rattle.order.specs.LineConditions.{same-succ, flagged-only}
+use Rattle.order.specs.Table.{Table}
 use Rattle.kept.specs.Conditions.{clash}
 use Rattle.kept.specs.Standing.{linked-inside}
 use Rattle.model.specs.State.{rowAt, succOf}
@@ -63,10 +64,14 @@ module _ (top me : ℕ) (rows : List Row) (sound : Structure top (rowAt rows)) w
       pushable = tt;
     }
       where
-        m : BacklinkMove (rowAt rows) (rowAt (written rows (OneRow (f .del) (withBacklink (rowAt rows (f .del)) (f .prev))))) (f .prev) (f .del)
-        m = backlink-written help (one-written rows (f .del) _ (linked-inside rows (f .del) (help-del-linked sound (f .prev) (f .del) help)))
+        after : Table
+        after = rowAt (written rows (OneRow (f .del) (withBacklink (rowAt rows (f .del)) (f .prev))))
 
-        s : SharedMove top me (rowAt rows) (rowAt (written rows (OneRow (f .del) (withBacklink (rowAt rows (f .del)) (f .prev)))))
+        m : BacklinkMove (rowAt rows) after (f .prev) (f .del)
+        m = backlink-written help
+            (one-written rows (f .del) _ (linked-inside rows (f .del) (help-del-linked sound (f .prev) (f .del) help)))
+
+        s : SharedMove top me (rowAt rows) after
         s = backlink-shared me sound m
 
     -- HelpFlagged, lines 2 to 4.
@@ -129,7 +134,8 @@ module _ (top me : ℕ) (rows : List Row) (sound : Structure top (rowAt rows)) w
   returns-lawful : (key element prev del right : ℕ) (caller : HelpCaller) → suc key < top → Helping (rowAt rows) prev del
       → Frozen (rowAt rows) del right
       → AllHold top me (rowAt rows) (helpCallerFacts key element del caller)
-      → Lawful top me rows (heldInHelp caller) (removedInHelp caller) [] (goWriting (helpMarked-2 rows prev del right) (helpFlaggedReturns rows key element caller))
+      → Lawful top me rows (heldInHelp caller) (removedInHelp caller) []
+      (goWriting (helpMarked-2 rows prev del right) (helpFlaggedReturns rows key element caller))
   unfolding helpFlaggedReturns delete-7 heldRow
   returns-lawful key element prev del right (Insert8 row new) fits helping frozen (low, (holding, _)) =
       help-marked-lawful top me rows sound _ _ [] prev del right frozen _ Keep tt refl
@@ -152,7 +158,8 @@ module _ (top me : ℕ) (rows : List Row) (sound : Structure top (rowAt rows)) w
       (subst (λ (s : List Pending). AllHold top me (rowAt rows) (facts (Help (HelpMarked2 right) f) s)
       → LawfulHelp f s (goWriting (helpMarked-2 rows (f .prev) (f .del) right) (helpFlaggedReturns rows (f .key) (f .element) (f .caller))))
       (sym empty)
-      (λ (fits, (helping, (frozen, rest))). returns-lawful (f .key) (f .element) (f .prev) (f .del) right (f .caller) fits helping frozen rest)
+      (λ (fits, (helping, (frozen, rest))).
+      returns-lawful (f .key) (f .element) (f .prev) (f .del) right (f .caller) fits helping frozen rest)
       known)
   helpFlagged-4-helpMarked-2-lawful f count last hs right (pending {rest = rest} some newest) known =
       rw (ne-eqb count 0 some)

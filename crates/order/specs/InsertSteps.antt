@@ -52,7 +52,9 @@ module _ (top me : ℕ) (rows : List Row) (sound : Structure top (rowAt rows)) (
   -- a held row is a save
   held-rank : (new k e : ℕ) → Holding me (rowAt rows) new k e → rankOf top (rowAt rows) new ≡ suc k
   held-rank new k e h =
-      save-rank top new (rowAt rows new .key) (λ q. held-not-linked (h .held) (cc (sound .head .linked))) (λ q. held-not-linked (h .held) (cc (sound .tail .linked)))
+      save-rank top new (rowAt rows new .key)
+      (λ q. held-not-linked (h .held) (cc (sound .head .linked)))
+      (λ q. held-not-linked (h .held) (cc (sound .tail .linked)))
       ∙ ap suc (h .has-key)
 
   pub not-tail : (x k : ℕ) → suc k < top → AtMost top (rowAt rows) x k → x ≢ 1
@@ -121,9 +123,9 @@ module _ (top me : ℕ) (rows : List Row) (sound : Structure top (rowAt rows)) (
       (λ _. read top me rows noRowHeld 0 hs _ refl refl tt)
     where
       taken : standingOf (rowAt rows) (lowestFree rows) ≡ Free → lowestFree rows < 128
-          → Lawful top me rows noRowHeld 0 hs (goWriting
-          (OneRow (lowestFree rows) (record { key = f .key; element = f .element; backlink = 0; succ = succOf 0 false false; standing = Held me }))
-          (Insert (Insert6 next (lowestFree rows)) f))
+          → let row : Row =
+          record { key = f .key; element = f .element; backlink = 0; succ = succOf 0 false false; standing = Held me } in
+          Lawful top me rows noRowHeld 0 hs (goWriting (OneRow (lowestFree rows) row) (Insert (Insert6 next (lowestFree rows)) f))
       taken free small =
           privately noRowHeld (lowestFree rows) _ (Insert (Insert6 next (lowestFree rows)) f) (inl free) (inr refl) refl refl (omega arith)
           (λ _. refl)
@@ -175,13 +177,16 @@ module _ (top me : ℕ) (rows : List Row) (sound : Structure top (rowAt rows)) (
   insert-10-11-lawful f next new (fits, (alone, (low, (high, (holding, _))))) =
       if-known (Lawful top me rows new 0 hs) (sameSucc (succAt (set rows new stored) prev) (succOf next false false))
       (λ same. linked-in (sym (ap (λ (r : Row). r .succ) (unstored stored)) ∙ same-succ _ _ same))
-      (λ _. if-known (λ (line : Line). Lawful top me rows new 0 hs (goWriting (OneRow new stored) line)) (flaggedOnly (succAt (set rows new stored) prev))
+      (λ _.
+      if-known (λ (line : Line). Lawful top me rows new 0 hs (goWriting (OneRow new stored) line))
+      (flaggedOnly (succAt (set rows new stored) prev))
       (λ flagged. prepared _ refl refl (λ put m. (
         fits,
         (
           help-survives sound m prev _ (flagged-for (ap (λ (r : Row). r .succ .flag) (sym (unstored stored)) ∙ flagged-only _ flagged)
               (ap (λ (r : Row). r .succ .right) (sym (unstored stored)))),
-          called-alone top me _ (f .key) (f .element) (Insert16 prev new) hs prev _ alone (at-most-survives sound m prev (f .key) low, (still-holding put, tt)),
+          called-alone top me _ (f .key) (f .element) (Insert16 prev new) hs prev _ alone
+              (at-most-survives sound m prev (f .key) low, (still-holding put, tt)),
         ),
       )))
       (λ _. prepared _ refl refl (λ put m. (fits, (alone, (at-most-survives sound m prev (f .key) low, (still-holding put, tt)))))))
@@ -243,7 +248,8 @@ module _ (top me : ℕ) (rows : List Row) (sound : Structure top (rowAt rows)) (
           R' = rowAt (written rows (TwoRows new linked-row prev (withSucc before-swing (succOf new false false))))
 
           put : TwoWritten (rowAt rows) R' new linked-row prev (withSucc before-swing (succOf new false false))
-          put = two-written rows new linked-row prev _ (held-inside rows new me (holding .held)) (linked-inside rows prev (low .linked)) (λ e. differ (sym e))
+          put = two-written rows new linked-row prev _ (held-inside rows new me (holding .held))
+              (linked-inside rows prev (low .linked)) (λ e. differ (sym e))
 
           new-rank : rankOf top (rowAt rows) new ≡ suc (f .key)
           new-rank = held-rank new (f .key) (f .element) holding

@@ -11,7 +11,7 @@ use Rattle.order.specs.Table.{rank, rankOf}
 use Rattle.order.specs.StructureFacts.{save-rank}
 use Rattle.order.specs.Facts.{reach}
 use Rattle.kept.specs.Conditions.{clash, both}
-use Rattle.model.specs.State.{rowAt}
+use Rattle.model.specs.State.{rowAt, if_then_else_}
 use Rattle.model.specs.Choices.{if-known}
 use Rattle.model.specs.Order.{keyAtMost, keyBelow, hasKey}
 use Rattle.model.specs.Cas.{sameBit, sameSucc, flaggedOnly}
@@ -33,64 +33,46 @@ says-no q = record { if-true = λ e. absurd (clash e refl); if-false = λ _. q }
 
 -- A test by key is a test by rank: the ends are known by their number, and the key fits under the tail's rank.
 module _ (top : ℕ) (rows : List Row) (i k : ℕ) where
-  rank-of : ℕ
-  rank-of = rank top i (rowAt rows i .key)
+  abbrev its-rank : ℕ
+  its-rank = rankOf top (rowAt rows) i
 
-  tail-rank : i ≡ 1 → rank-of ≡ top
-  unfolding rank-of rank
-  tail-rank e = ap (λ (x : ℕ). rank top x (rowAt rows i .key)) e
+  -- a test that knows the ends by their number, by the rank of the row
+  by-rank : (P : Bool → Type 0) {tail head save : Bool} → (its-rank ≡ top → P tail) → (its-rank ≡ 0 → P head)
+      → (1 < i → its-rank ≡ suc (rowAt rows i .key) → P save) → P (if eqb i 1 then tail else if eqb i 0 then head else save)
+  unfolding rank
+  by-rank P at-tail at-head at-save =
+      if-known P (eqb i 1) (λ e. at-tail (ap (λ (x : ℕ). rank top x (rowAt rows i .key)) (eqb-true i 1 e))) (λ n.
+      if-known P (eqb i 0) (λ e. at-head (ap (λ (x : ℕ). rank top x (rowAt rows i .key)) (eqb-true i 0 e))) (λ m.
+      let not-tail : i ≢ 1 = eqb-false i 1 n in
+      let not-head : i ≢ 0 = eqb-false i 0 m in
+      at-save (omega arith) (save-rank top i (rowAt rows i .key) not-head not-tail)))
 
-  head-rank : i ≡ 0 → rank-of ≡ 0
-  unfolding rank-of rank
-  head-rank e = ap (λ (x : ℕ). rank top x (rowAt rows i .key)) e
+  pub key-at-most : suc k < top → Decides (its-rank ≤ suc k) (suc k < its-rank) (keyAtMost rows i k)
+  unfolding keyAtMost
+  key-at-most fits = by-rank (Decides _ _) (λ r. says-no (omega arith)) (λ r. says-yes (omega arith)) (λ no-end r. record {
+    if-true = λ t. omega (arith, leb-true (rowAt rows i .key) k t);
+    if-false = λ t. omega (arith, leb-false (rowAt rows i .key) k t);
+  })
 
-  save : i ≢ 1 → i ≢ 0 → rank-of ≡ suc (rowAt rows i .key)
-  unfolding rank-of
-  save h g = save-rank top i (rowAt rows i .key) g h
-
-  pub key-at-most : suc k < top → Decides (rankOf top (rowAt rows) i ≤ suc k) (suc k < rankOf top (rowAt rows) i) (keyAtMost rows i k)
-  unfolding keyAtMost rank-of
-  key-at-most fits =
-      if-known (Decides _ _) (eqb i 1)
-      (λ e. says-no (omega (arith, tail-rank (eqb-true i 1 e))))
-      (λ h. if-known (Decides _ _) (eqb i 0)
-      (λ e. says-yes (omega (arith, head-rank (eqb-true i 0 e))))
-      (λ g.
-      let r = save (eqb-false i 1 h) (eqb-false i 0 g) in
-      record { if-true = λ t. omega (arith, r, leb-true (rowAt rows i .key) k t); if-false = λ t. omega (arith, r, leb-false (rowAt rows i .key) k t) }))
-
-  pub key-below : suc k < top → Decides (rankOf top (rowAt rows) i ≤ k) (k < rankOf top (rowAt rows) i) (keyBelow rows i k)
-  unfolding keyBelow rank-of
-  key-below fits =
-      if-known (Decides _ _) (eqb i 1)
-      (λ e. says-no (omega (arith, tail-rank (eqb-true i 1 e))))
-      (λ h. if-known (Decides _ _) (eqb i 0)
-      (λ e. says-yes (omega (arith, head-rank (eqb-true i 0 e))))
-      (λ g.
-      let r = save (eqb-false i 1 h) (eqb-false i 0 g) in
-      record { if-true = λ t. omega (arith, r, ltb-true (rowAt rows i .key) k t); if-false = λ t. omega (arith, r, ltb-false (rowAt rows i .key) k t) }))
+  pub key-below : suc k < top → Decides (its-rank ≤ k) (k < its-rank) (keyBelow rows i k)
+  unfolding keyBelow
+  key-below fits = by-rank (Decides _ _) (λ r. says-no (omega arith)) (λ r. says-yes (omega arith)) (λ no-end r. record {
+    if-true = λ t. omega (arith, ltb-true (rowAt rows i .key) k t);
+    if-false = λ t. omega (arith, ltb-false (rowAt rows i .key) k t);
+  })
 
   -- a row that has the key is a save
   pub record HasKey : Type 0 where
     pub no-end : 1 < i
     pub the-key : rowAt rows i .key ≡ k
-    pub the-rank : rankOf top (rowAt rows) i ≡ suc k
+    pub the-rank : its-rank ≡ suc k
 
-  pub has-key : suc k < top → Decides HasKey (rankOf top (rowAt rows) i ≢ suc k) (hasKey rows i k)
-  unfolding hasKey rank-of
-  has-key fits =
-      if-known (Decides HasKey _) (eqb i 1)
-      (λ e. says-no (λ q. omega (arith, tail-rank (eqb-true i 1 e), q)))
-      (λ h. if-known (Decides HasKey _) (eqb i 0)
-      (λ e. says-no (λ q. omega (arith, head-rank (eqb-true i 0 e), q)))
-      (λ g.
-      let r = save (eqb-false i 1 h) (eqb-false i 0 g) in
-      let not-tail : i ≢ 1 = eqb-false i 1 h in
-      let not-head : i ≢ 0 = eqb-false i 0 g in
-      record {
-        if-true = λ t. record { no-end = omega arith; the-key = eqb-true _ _ t; the-rank = omega (arith, r, eqb-true (rowAt rows i .key) k t) };
-        if-false = λ t q. eqb-false (rowAt rows i .key) k t (omega (arith, r, q));
-      }))
+  pub has-key : suc k < top → Decides HasKey (its-rank ≢ suc k) (hasKey rows i k)
+  unfolding hasKey
+  has-key fits = by-rank (Decides HasKey _) (λ r. says-no (λ q. omega arith)) (λ r. says-no (λ q. omega arith)) (λ no-end r. record {
+    if-true = λ t. record { no-end = no-end; the-key = eqb-true _ _ t; the-rank = omega (arith, eqb-true (rowAt rows i .key) k t) };
+    if-false = λ t q. eqb-false (rowAt rows i .key) k t (omega arith);
+  })
 
 -- the test of SearchFrom's lines 2 and 7
 pub reaches-rank : (top : ℕ) (rows : List Row) (f : SearchFrame) (next : ℕ) → suc (f .key) < top
