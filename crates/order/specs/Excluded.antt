@@ -1,6 +1,6 @@
 -- What the statement of demand 3 excludes, whatever the machine: from an order alone, without a fact about rows or lines. An add that was
--- answered Added is in the map at the end if its key is never deleted; no request that comes after it is answered Absent by itself; and Full
--- is not given while a row is free that was never linked.
+-- answered Added is in the map at the end if its key is never deleted; no request that comes after it is answered Absent by itself; and
+-- Full is not given while a row is free that was never linked.
 use Prim.Native.Nat.{ℕ, suc, _≤_, _<_}
 use mathlib.Core.Bool.{false}
 use mathlib.Core.Path.{_≡_, refl, ap, sym, _∙_, subst}

@@ -1,5 +1,5 @@
--- The lost-save schedule, P8 of document 01, as an instance: keys 10 and 30 are there; B inserts 20 for 5 steps; A deletes 10 for 7; B goes on
--- and is Added; A ends Removed. Whatever is called afterwards, if it deletes no save 20, every search of 20 finds it.
+-- The lost-save schedule, P8 of document 01, as an instance: keys 10 and 30 are there; B inserts 20 for 5 steps; A deletes 10 for 7; B
+-- goes on and is Added; A ends Removed. Whatever is called afterwards, if it deletes no save 20, every search of 20 finds it.
 use Prim.Native.Nat.{ℕ, zero, suc, _+_, _-_, _≤_, _<_}
 use mathlib.Core.Bool.{Bool, true, false, not, _&&_}
 use mathlib.Core.Path.{_≡_, refl, ap, sym, _∙_, subst}
@@ -101,7 +101,8 @@ DeletesNone k calls = (i : ℕ) → i < length calls → deletesKey k (getD call
 p8-deletes-none : DeletesNone 20 p8
 unfolding through
 p8-deletes-none i inside =
-    not-true (deletesKey 20 (getD p8 i (Step 0))) (through-each (λ j. not (deletesKey 20 (getD p8 j (Step 0)))) 0 43 refl i (omega arith) (omega arith))
+    not-true (deletesKey 20 (getD p8 i (Step 0)))
+    (through-each (λ j. not (deletesKey 20 (getD p8 j (Step 0)))) 0 43 refl i (omega arith) (omega arith))
 
 -- ---- The save is never lost ----
 
@@ -124,4 +125,6 @@ module _ (more : List Call) (harmless : DeletesNone 20 more) where
       → Finished emptyCatalogue (p8 ++ more) q v h a → a ≡ Found 200
   save-kept q v x h a asked later finished =
       stored-save-found (p8 ++ more) 12 1 20 200 39 (accepts-still emptyCatalogue p8 more 12 _ b-adds)
-      (finished-still emptyCatalogue p8 more 12 1 39 Added b-added) (λ d w y r. absurd (none-deletes d w y r)) q v x h a asked (omega arith) finished
+      (finished-still emptyCatalogue p8 more 12 1 39 Added b-added)
+      (λ d w y r. absurd (none-deletes d w y r))
+      q v x h a asked (omega arith) finished

@@ -7,7 +7,7 @@ use mathlib.Core.Logic.{_⊎_, inl, inr}
 use mathlib.Core.List.{List}
 use native.Mathlib.Omega.{arith}
 use native.Mathlib.Decide.{ℕ-discrete}
-use Rattle.order.specs.Table.{Table, markOf, standingOf, tableOf}
+use Rattle.order.specs.Table.{Table, markOf, standingOf}
 use Rattle.order.specs.Moves.{Move, nothing, links, marks, unlinks, flags, backlinks, private, LinkMove, MarkMove}
 use Rattle.order.specs.MarkOf.{mark-of}
 use Rattle.order.specs.MapMoves.{link-adds, mark-removes}
@@ -17,9 +17,8 @@ use Rattle.order.specs.ChainMap.{chainMap, chain-map-is-map}
 use Rattle.order.specs.Asking.{Agrees, added-agrees, removed-agrees, map-unique}
 use Rattle.order.specs.Memory.{LinksRow}
 use Rattle.order.specs.Demand.{stateAt}
-use Rattle.order.specs.Time.{Ready, sound-at, structure-at, move-at}
+use Rattle.order.specs.Time.{Ready, sound-at, structure-at, move-at, TableAt}
 use Rattle.kept.specs.Standing.{held-not-linked, free-not-linked}
-use Rattle.model.specs.State.{rowAt}
 use Rattle.model.specs.declared.Row.{Row}
 use Rattle.model.specs.declared.Standing.the-variants.{Free, Held, Linked}
 use Rattle.model.specs.declared.Answer.the-variants.{Added, Removed}
@@ -72,7 +71,7 @@ module _ {top : ℕ} {start : Catalogue} {calls : List Call} (ready : Ready top 
   unfoldable pub mapAt : ℕ → PlainMap
   mapAt i = chainMap (stateAt start calls i .rows)
 
-  pub is-map-at : (i : ℕ) → IsMapOf (tableOf (stateAt start calls i)) (mapAt i)
+  pub is-map-at : (i : ℕ) → IsMapOf (TableAt ready i) (mapAt i)
   unfolding mapAt
   is-map-at i = chain-map-is-map (stateAt start calls i .rows) (omega (arith, sound-at ready i .sizes .rows)) (structure-at ready i)
 
@@ -81,18 +80,18 @@ module _ {top : ℕ} {start : Catalogue} {calls : List Call} (ready : Ready top 
   same-rows-map i j e = ap chainMap e
 
   -- any map of the table is the map
-  pub is-the-map : (i : ℕ) (M : PlainMap) → IsMapOf (tableOf (stateAt start calls i)) M → M ≡ mapAt i
+  pub is-the-map : (i : ℕ) (M : PlainMap) → IsMapOf (TableAt ready i) M → M ≡ mapAt i
   is-the-map i M is = map-unique (structure-at ready i) is (is-map-at i)
 
   -- the map, or what changes it, at position i
-  pub turn-at : (i w : ℕ) → Move top w (tableOf (stateAt start calls i)) (tableOf (stateAt start calls (suc i)))
-      → Turn top w (tableOf (stateAt start calls i)) (tableOf (stateAt start calls (suc i))) (mapAt i) (mapAt (suc i))
+  pub turn-at : (i w : ℕ) → Move top w (TableAt ready i) (TableAt ready (suc i))
+      → Turn top w (TableAt ready i) (TableAt ready (suc i)) (mapAt i) (mapAt (suc i))
   turn-at i w m =
-      subst (Turn top w _ _ (mapAt i)) (is-the-map (suc i) (mapAfterMove m (mapAt i)) (map-after-move (structure-at ready i) m (is-map-at i)))
-      (turn m (mapAt i))
+      let is = is-the-map (suc i) (mapAfterMove m (mapAt i)) (map-after-move (structure-at ready i) m (is-map-at i)) in
+      subst (Turn top w _ _ (mapAt i)) is (turn m (mapAt i))
 
   -- the step that links a row of key k and element e
-  pub link-agrees : (i w k e : ℕ) → LinksRow w (tableOf (stateAt start calls i)) (tableOf (stateAt start calls (suc i))) k e
+  pub link-agrees : (i w k e : ℕ) → LinksRow w (TableAt ready i) (TableAt ready (suc i)) k e
       → Agrees (mapAt i) (insert k e) Added (mapAt (suc i))
   link-agrees i w k e l =
       let m = link-of (move-at ready i) (l .held) (l .linked) .move in
@@ -103,8 +102,8 @@ module _ {top : ℕ} {start : Catalogue} {calls : List Call} (ready : Ready top 
       (rw (l .has-key, l .has-element) at becomes)
 
   -- the step that marks row y
-  pub mark-agrees : (i y : ℕ) → markOf (tableOf (stateAt start calls i)) y ≡ false → markOf (tableOf (stateAt start calls (suc i))) y ≡ true
-      → Agrees (mapAt i) (delete (rowAt (stateAt start calls i .rows) y .key)) (Removed (rowAt (stateAt start calls i .rows) y .element)) (mapAt (suc i))
+  pub mark-agrees : (i y : ℕ) → markOf (TableAt ready i) y ≡ false → markOf (TableAt ready (suc i)) y ≡ true
+      → Agrees (mapAt i) (delete (TableAt ready i y .key)) (Removed (TableAt ready i y .element)) (mapAt (suc i))
   mark-agrees i y unmarked marked =
       let m = mark-of (move-at ready i) unmarked marked .move in
       let removes = mark-removes (structure-at ready i) m in

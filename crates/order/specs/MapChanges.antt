@@ -1,5 +1,5 @@
--- The requests that change the map, each at its step: an add at the step that links its row, a delete at the step that marks its row. Such a
--- request changes the map once, and two never change it at one step.
+-- The requests that change the map, each at its step: an add at the step that links its row, a delete at the step that marks its row.
+-- Such a request changes the map once, and two never change it at one step.
 use Prim.Native.Nat.{ℕ, suc, _≤_, _<_}
 use mathlib.Core.Bool.{true, false}
 use mathlib.Core.Path.{_≡_, refl, ap, sym, _∙_, subst}
@@ -43,12 +43,17 @@ module _ {top : ℕ} {start : Catalogue} {calls : List Call} (ready : Ready top 
         → markOf (TableAt ready T) y ≡ false → markOf (TableAt ready (suc T)) y ≡ true → Change s T
 
   -- what is said of one request by another account of it
-  pub by-request : (P : ℕ → ℕ → ℕ → ℕ → Type 0) (s w code key element w' code' key' element' : ℕ) → Request start calls s w code key element
-      → Request start calls s w' code' key' element' → P w' code' key' element' → P w code key element
-  by-request P s w code key element w' code' key' element' a b p =
+  pub by-request : (P : ℕ → ℕ → ℕ → ℕ → Type 0) {s w code key element w' code' key' element' : ℕ}
+      → Request start calls s w code key element → Request start calls s w' code' key' element' → P w' code' key' element'
+      → P w code key element
+  by-request P {s} {w} {code} {key} {element} {w'} {code'} {key'} {element'} a b p =
       let e = same-request s w code key element w' code' key' element' a b in
       subst (λ (x : ℕ). P x code key element) (e .worker) (subst (λ (x : ℕ). P w' x key element) (e .code-same)
       (subst (λ (x : ℕ). P w' code' x element) (e .key-same) (subst (P w' code' key') (e .element-same) p)))
+
+  ends-too : {s w code key element w' code' key' element' f : ℕ} {a : Answer} → Request start calls s w code key element
+      → Ends ready s w' code' key' element' f a → Ends ready s w code key element f a
+  ends-too {s} {f = f} {a = a} r e = by-request (λ v c k x. Ends ready s v c k x f a) r (e .running .request) e
 
   pub marked-still : (t u y : ℕ) → t ≤ u → markOf (TableAt ready t) y ≡ true → markOf (TableAt ready u) y ≡ true
   marked-still t u y h m =
@@ -87,8 +92,8 @@ module _ {top : ℕ} {start : Catalogue} {calls : List Call} (ready : Ready top 
     finishes : (f : ℕ) → T ≤ f → Ends ready s w code key element f (Removed (TableAt ready T y .element)) → Outcome s w code key element T y
     stays : Removing start calls s w → Outcome s w code key element T y
 
-  module _ (s w code key element T y : ℕ) (r : Running ready s w code key element T) (is : removedAt ready T w ≡ y) (some : y ≢ noRowRemoved)
-      (unmarked : markOf (TableAt ready T) y ≡ false) (marked : markOf (TableAt ready (suc T)) y ≡ true) where
+  module _ (s w code key element T y : ℕ) (r : Running ready s w code key element T) (is : removedAt ready T w ≡ y)
+      (some : y ≢ noRowRemoved) (unmarked : markOf (TableAt ready T) y ≡ false) (marked : markOf (TableAt ready (suc T)) y ≡ true) where
     inside : T < length calls
     inside = marking-step T y unmarked marked .1 .inside
 
@@ -127,7 +132,7 @@ module _ {top : ℕ} {start : Catalogue} {calls : List Call} (ready : Ready top 
   add-not-removal : {A : Type 0} (s w code key element w' code' key' element' T T' y : ℕ) → Ends ready s w code key element T Added
       → Running ready s w' code' key' element' T' → removedAt ready T' w' ≡ y → y ≢ noRowRemoved → A
   add-not-removal s w code key element w' code' key' element' T T' y e r is some =
-      let e' = by-request (λ v c k x. Ends ready s v c k x T Added) s w' code' key' element' w code key element (r .request) (e .running .request) e in
+      let e' = ends-too (r .request) e in
       not-removed refl (ends-removed s w' code' key' element' T' T y Added r is some e' .1)
 
   removal-before : {A : Type 0} (s w code key element T T' y y' : ℕ) → Running ready s w code key element T → removedAt ready T w ≡ y
@@ -140,17 +145,16 @@ module _ {top : ℕ} {start : Catalogue} {calls : List Call} (ready : Ready top 
 
   pub change-once : (s T T' : ℕ) → Change s T → Change s T' → T ≡ T'
   change-once s T T' (adds w code key element e) (adds w' code' key' element' e') =
-      let e'' = by-request (λ v c k x. Ends ready s v c k x T' Added) s w code key element w' code' key' element'
-      (e .running .request) (e' .running .request) e' in
+      let e'' = ends-too (e .running .request) e' in
       same-finish s w T T' Added Added (e .finished) (e'' .finished) .0
   change-once s T T' (adds w code key element e) (removes w' code' key' element' y r is some unmarked marked) =
       add-not-removal s w code key element w' code' key' element' T T' y e r is some
   change-once s T T' (removes w' code' key' element' y r is some unmarked marked) (adds w code key element e) =
       add-not-removal s w code key element w' code' key' element' T' T y e r is some
-  change-once s T T' (removes w code key element y r is some unmarked marked) (removes w' code' key' element' y' r' is' some' unmarked' marked') =
+  change-once s T T' (removes w code key element y r is some unmarked marked)
+      (removes w' code' key' element' y' r' is' some' unmarked' marked') =
       go (compared T T')
-      (by-request (λ v c k x. Running ready s v c k x T' × (removedAt ready T' v ≡ y')) s w code key element w' code' key' element'
-      (r .request) (r' .request) (r', is'))
+      (by-request (λ v c k x. Running ready s v c k x T' × (removedAt ready T' v ≡ y')) (r .request) (r' .request) (r', is'))
     where
       go : Compared T T' → Running ready s w code key element T' × (removedAt ready T' w ≡ y') → T ≡ T'
       go (less h) (q, i) = removal-before s w code key element T T' y y' r is some marked q i unmarked' h
@@ -186,7 +190,8 @@ module _ {top : ℕ} {start : Catalogue} {calls : List Call} (ready : Ready top 
       link-no-mark s w code key element T y e unmarked marked
   change-alone s s' T (removes w' code' key' element' y r is some unmarked marked) (adds w code key element e) =
       link-no-mark s' w code key element T y e unmarked marked
-  change-alone s s' T (removes w code key element y r is some unmarked marked) (removes w' code' key' element' y' r' is' some' unmarked' marked') =
+  change-alone s s' T (removes w code key element y r is some unmarked marked)
+      (removes w' code' key' element' y' r' is' some' unmarked' marked') =
       let same = owned-at ready T .only w' w y some (is' ∙ sym one-row) is in
       alone ready s w code key element s' code' key' element' T r (subst (λ (v : ℕ). Running ready s' v code' key' element' T) same r')
     where
@@ -201,12 +206,11 @@ module _ {top : ℕ} {start : Catalogue} {calls : List Call} (ready : Ready top 
   pub change-ends : (s T w code key element f : ℕ) (a : Answer) → Change s T → Ends ready s w code key element f a
       → (reading a ≡ false) × (a ≢ Full)
   change-ends s T w code key element f a (adds w' code' key' element' e') e =
-      let e'' = by-request (λ v c k x. Ends ready s v c k x T Added) s w code key element w' code' key' element'
-      (e .running .request) (e' .running .request) e' in
+      let e'' = ends-too (e .running .request) e' in
       let same = same-finish s w f T a Added (e .finished) (e'' .finished) .1 in
       (ap reading same, λ h. contradiction (cc))
   change-ends s T w code key element f a (removes w' code' key' element' y r is some unmarked marked) e =
-      let e' = by-request (λ v c k x. Ends ready s v c k x f a) s w' code' key' element' w code key element (r .request) (e .running .request) e in
+      let e' = ends-too (r .request) e in
       let same = ends-removed s w' code' key' element' T f y a r is some e' .1 in
       (ap reading same, λ h. contradiction (cc))
 
@@ -219,11 +223,10 @@ module _ {top : ℕ} {start : Catalogue} {calls : List Call} (ready : Ready top 
   pub change-unfinished : (s T w code key element : ℕ) → Change s T → Running ready s w code key element (length calls)
       → RemovesMarked w
   change-unfinished s T w code key element (adds w' code' key' element' e') q =
-      let e = by-request (λ v c k x. Ends ready s v c k x T Added) s w code key element w' code' key' element' (q .request) (e' .running .request) e' in
+      let e = ends-too (q .request) e' in
       absurd (ended-not-running ready s w T (length calls) Added (e .finished) (e .finished .step .inside) (q .busy))
   change-unfinished s T w code key element (removes w' code' key' element' y r is some unmarked marked) q =
-      let both = by-request (λ v c k x. Running ready s v c k x T × (removedAt ready T v ≡ y)) s w code key element w' code' key' element'
-      (q .request) (r .request) (r, is) in
+      let both = by-request (λ v c k x. Running ready s v c k x T × (removedAt ready T v ≡ y)) (q .request) (r .request) (r, is) in
       let early = marking-step T y unmarked marked .1 .inside in
       let still = removes-on ready s w code key element T (length calls) y q (both .0 .since) (omega arith) (both .1) some in
       ((λ h. some (sym still ∙ h)), rw still (marked-still (suc T) (length calls) y early marked))

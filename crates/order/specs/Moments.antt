@@ -12,7 +12,7 @@ use Rattle.order.specs.MapOfTable.{map-has, map-lacks}
 use Rattle.order.specs.Asking.{Agrees, found-agrees, absent-agrees, duplicate-agrees, no-delete-agrees}
 use Rattle.order.specs.Memory.{Answered, RemovesRow}
 use Rattle.order.specs.Demand.{stateAt, Accepts}
-use Rattle.order.specs.Time.{Ready, Happening, nothing-happens, submits, steps, happening, structure-at, TableAt}
+use Rattle.order.specs.Time.{Ready, Happening, nothing-happens, submits, steps, happening, structure-at, TableAt, RowsAt}
 use Rattle.order.specs.Running.{removedAt, Ends}
 use Rattle.order.specs.MapAt.{mapAt, is-map-at, same-rows-map, link-agrees}
 use Rattle.model.specs.declared.Catalogue.{Catalogue}
@@ -44,7 +44,8 @@ module _ {top : ℕ} {start : Catalogue} {calls : List Call} (ready : Ready top 
   step-after : (n T f w : ℕ) → T + n ≡ f → Accepts start calls f (Step w) → StepFrom T f
   step-after zero T f w e a =
       let same : T ≡ f = omega arith in
-      record { moment = f; from = omega arith; until = omega arith; worker = w; step = a; rows-same = ap (λ (i : ℕ). stateAt start calls i .rows) (sym same) }
+      let rows = ap (RowsAt ready) (sym same) in
+      record { moment = f; from = omega arith; until = omega arith; worker = w; step = a; rows-same = rows }
   step-after (suc n) T f w e a = go (happening ready T) (step-after n (suc T) f w (omega arith) a)
     where
       later : stateAt start calls (suc T) .rows ≡ stateAt start calls T .rows → StepFrom (suc T) f → StepFrom T f

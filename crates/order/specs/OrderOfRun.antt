@@ -145,18 +145,23 @@ module _ {top : ℕ} {start : Catalogue} {calls : List Call} (ready : Ready top 
   stands zero t p m = absurd (List·Memᴰ·not-nil m)
   stands (suc n) t p m = go (List·Memᴰ·append-cases (readers t) m) (λ k. stands n (suc t) p k)
     where
+      now : {test : ℕ → Bool} → (test (p .request) ≡ true → BelongsTo t (p .request)) → Passes test t p → Stands (suc n) t p
+      now belongs r = record {
+        from = omega (arith, r .now);
+        until = omega (arith, r .now);
+        inside = r .inside;
+        belongs = rw (r .now) (belongs (r .passed));
+      }
+
+      later : Stands n (suc t) p → Stands (suc n) t p
+      later s = record { from = omega (arith, s .from); until = omega (arith, s .until); inside = s .inside; belongs = s .belongs }
+
       go : List·Memᴰ p (readers t) ⊎ List·Memᴰ p (changers t ++ orderFrom n (suc t))
           → (List·Memᴰ p (orderFrom n (suc t)) → Stands n (suc t) p) → Stands (suc n) t p
-      go (inl k) rest =
-          let r = passes (readsNow t) t p k in
-          record { from = omega (arith, r .now); until = omega (arith, r .now); inside = r .inside; belongs = inl (rw (r .now) (r .passed)) }
+      go (inl k) rest = now (λ h. inl h) (passes (readsNow t) t p k)
       go (inr k) rest = elim (List·Memᴰ·append-cases (changers t) k) [
-        | inl h ↦
-            let r = passes (changesNow t) t p h in
-            record { from = omega (arith, r .now); until = omega (arith, r .now); inside = r .inside; belongs = inr (rw (r .now) (r .passed)) }
-        | inr h ↦
-            let s = rest h in
-            record { from = omega (arith, s .from); until = omega (arith, s .until); inside = s .inside; belongs = s .belongs }
+        | inl h ↦ now (λ q. inr q) (passes (changesNow t) t p h)
+        | inr h ↦ later (rest h)
       ]
 
   pub in-order-from : (n t s T : ℕ) → t ≤ T → T < t + n → s < length calls → BelongsTo T s

@@ -1,5 +1,5 @@
--- Demand 3, proved: for any calls from the empty catalogue; and from any state in which no worker is busy, the rows have their structure and
--- no flag is without an owner, with the map of its chain.
+-- Demand 3, proved: for any calls from the empty catalogue; and from any state in which no worker is busy, the rows have their structure
+-- and no flag is without an owner, with the map of its chain.
 use Prim.Native.Nat.{ℕ, _+_, _≤_, _<_}
 use mathlib.Core.Bool.{true, false}
 use mathlib.Core.Path.{_≡_, refl, sym, _∙_, subst}
@@ -18,7 +18,7 @@ use Rattle.order.specs.SoundKept.{KeysFit}
 use Rattle.order.specs.Owners.{Owned}
 use Rattle.order.specs.Reached.{empty-ready}
 use Rattle.order.specs.Demand.{stateAt, Placed, Ordered, FullExactly, UnmarkedSave, HoldsTheChain, DemandThree}
-use Rattle.order.specs.Time.{Ready, state-end, sound-at, owned-at, structure-at}
+use Rattle.order.specs.Time.{Ready, state-end, sound-at, owned-at, structure-at, RowsAt}
 use Rattle.order.specs.MapAt.{mapAt, is-map-at, is-the-map}
 use Rattle.order.specs.Placing.{once-at}
 use Rattle.order.specs.OrderOfRun.{orderFrom, HasPlace, has-place, stands, in-order-from, order-sorted, order-once, entry-of, moment-of}
@@ -50,7 +50,8 @@ module _ {top : ℕ} (rows : List Row) (small : length rows ≤ 128) (sound : St
 
   was-saved : (k e : ℕ) → UnmarkedSave rows k e → Has (rowAt rows) k e
   was-saved k e u =
-      shown-has rows small sound k e (record { row = u .row; met = u .met; unmarked = u .unmarked; key = u .has-key; element = u .has-element })
+      shown-has rows small sound k e
+      (record { row = u .row; met = u .met; unmarked = u .unmarked; key = u .has-key; element = u .has-element })
 
   -- the map of the table holds exactly the unmarked saves on the chain
   pub map-holds-chain : (m : PlainMap) → IsMapOf (rowAt rows) m → HoldsTheChain m rows
@@ -71,7 +72,8 @@ module _ {top : ℕ} (rows : List Row) (small : length rows ≤ 128) (sound : St
       go k (some e) is = was-saved k e (holds k e .0 is)
       go k none is = record {
         none = λ row regular save key.
-            let has : Has (rowAt rows) k (rowAt rows row .element) = record { row = row; regular = regular; save = save; key = key; element = refl } in
+            let has : Has (rowAt rows) k (rowAt rows row .element) =
+            record { row = row; regular = regular; save = save; key = key; element = refl } in
             let held = holds k (rowAt rows row .element) .1 (saved k (rowAt rows row .element) has) in
             contradiction (cc);
       }
@@ -116,8 +118,8 @@ demand-from start calls before ready holds = record {
   after = mapAt ready (length calls);
   ordered = subst (λ (m : PlainMap). Ordered start calls m (mapAt ready (length calls))) (sym first) (run-ordered ready);
   ends = subst (λ (c : Catalogue). HoldsTheChain (mapAt ready (length calls)) (c .rows)) (state-end start calls)
-      (map-holds-chain (stateAt start calls (length calls) .rows) (omega (arith, sound-at ready (length calls) .sizes .rows)) (structure-at ready (length calls))
-      (mapAt ready (length calls)) (is-map-at ready (length calls)));
+      (map-holds-chain (RowsAt ready (length calls)) (omega (arith, sound-at ready (length calls) .sizes .rows))
+      (structure-at ready (length calls)) (mapAt ready (length calls)) (is-map-at ready (length calls)));
   full = full-exactly ready;
 }
   where

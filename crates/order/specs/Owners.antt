@@ -23,7 +23,7 @@ use Rattle.kept.specs.Ways.{effectIn, lineOf, workerIn}
 use Rattle.model.specs.State.{rowAt, emptyCatalogue}
 use Rattle.model.specs.Answers.{line-after}
 use Rattle.model.specs.Choices.{if-both}
-use Rattle.model.specs.Step.{written, firstLine}
+use Rattle.model.specs.Step.{firstLine}
 use Rattle.model.specs.declared.Row.{Row}
 use Rattle.model.specs.declared.Worker.{Worker}
 use Rattle.model.specs.declared.Catalogue.{Catalogue}
@@ -178,7 +178,7 @@ module _ {top : ℕ} {c c' : Catalogue} (sound : Sound top c) (owned : Owned c) 
     step-keeps-owned = record {
       owner =
           subst (λ (rows : List Row). (p : ℕ) → flagOf (rowAt rows) p ≡ true → Owner c' (rightOf (rowAt rows) p)) (sym (s .rows-written))
-          (step-owner (rowAt (written (c .rows) (effectIn c w .write))) (step-lawful top c c' sound w s .move) (step-lawful top c c' sound w s .removal));
+          (step-owner _ (step-lawful top c c' sound w s .move) (step-lawful top c c' sound w s .removal));
       only = λ u v row some mine theirs. one u v row some mine theirs (ℕ-discrete u w) (ℕ-discrete v w);
     }
       where

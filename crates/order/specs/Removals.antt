@@ -131,7 +131,8 @@ module _ {top : ℕ} {start : Catalogue} {calls : List Call} (ready : Ready top 
       → markOf (TableAt ready u) y ≡ true
       → MarkedAt s w code key element u y
   claim-marked s w code key element u y r c marked =
-      let m = marked-within (TableAt ready) (mover-at ready) (structure-at ready) (move-at ready) (suc (c .at)) u y (c .before) clear marked in
+      let m = marked-within (TableAt ready) (mover-at ready) (structure-at ready) (move-at ready) (suc (c .at)) u y
+      (c .before) clear marked in
       let low : suc (c .at) ≤ m .time = m .after in
       record {
         time = m .time;
@@ -145,7 +146,8 @@ module _ {top : ℕ} {start : Catalogue} {calls : List Call} (ready : Ready top 
     where
       clear : markOf (TableAt ready (suc (c .at))) y ≡ false
       clear = c .flag .mark= y ∙ (rw (c .flag .prev-right) at
-          (unflagged-right-unmarked (structure-at ready (c .at)) (c .prev) (c .flag .prev-regular) (c .flag .prev-not-tail) (c .flag .prev-unflagged)))
+          (unflagged-right-unmarked (structure-at ready (c .at)) (c .prev) (c .flag .prev-regular) (c .flag .prev-not-tail)
+          (c .flag .prev-unflagged)))
 
   -- a running delete whose row is marked was marked at a step of its own time
   pub removal-marked : (s w code key element u y : ℕ) → Running ready s w code key element u → removedAt ready u w ≡ y → y ≢ noRowRemoved

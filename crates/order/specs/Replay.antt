@@ -57,13 +57,14 @@ module _ {top : ℕ} {start : Catalogue} {calls : List Call} (ready : Ready top 
       → Replays start calls (mapAt ready t) (record { request = s; moment = t } ∷ ps) n
   read-then {n} {ps} s t r rest = go (r .right)
     where
-      go : (r .answer ≡ Full) ⊎ ((reading (r .answer) ≡ true) × Agrees (mapAt ready t) (operation (r .code) (r .key) (r .element)) (r .answer) (mapAt ready t))
+      go : (r .answer ≡ Full) ⊎ ((reading (r .answer) ≡ true)
+          × Agrees (mapAt ready t) (operation (r .code) (r .key) (r .element)) (r .answer) (mapAt ready t))
           → Replays start calls (mapAt ready t) (record { request = s; moment = t } ∷ ps) n
       go (inl e) = is-full (r .worker) (r .code) (r .key) (r .element) (r .finish) (r .ends-so .running .request)
           (subst (Finished start calls s (r .worker) (r .finish)) e (r .ends-so .finished)) rest
       go (inr (h, agrees)) =
-          answers-then _ (r .worker) (r .code) (r .key) (r .element) (r .finish) (r .answer) (r .ends-so .running .request) (r .ends-so .finished)
-          (reading-not-full h) agrees rest
+          answers-then _ (r .worker) (r .code) (r .key) (r .element) (r .finish) (r .answer)
+          (r .ends-so .running .request) (r .ends-so .finished) (reading-not-full h) agrees rest
 
   change-then : {n : PlainMap} {ps : List (Placed start calls)} (s t : ℕ) → Change ready s t
       → Replays start calls (mapAt ready (suc t)) ps n

@@ -104,11 +104,16 @@ module _ (top : ℕ) (rowsAt : ℕ → List Row) (who : ℕ → ℕ) (sound : (i
     unfolding searchFrom-7
     searchFrom-7-tells next was before next-unmarked =
         if-known TellsSearch (reaches (rowsAt u) f next)
-        (λ _. record { next = record { operation-same = refl; past = (next-unmarked, tt, past); removed-same = inl refl }; linking = inl tt })
+        (λ _. record {
+          next = record { operation-same = refl; past = (next-unmarked, tt, past); removed-same = inl refl };
+          linking = inl tt;
+        })
         (λ far. searchFrom-10-tells next was (beyond next before far))
 
     not-tail : f .curr ≢ 1
-    not-tail = low-not-tail top (rowsAt u) (f .curr) (reach (f .caller) (f .key)) (f .key) (common .0) (reach-fits (f .caller) (f .key)) (common .1 .1 .0)
+    not-tail =
+        low-not-tail top (rowsAt u) (f .curr) (reach (f .caller) (f .key)) (f .key) (common .0)
+        (reach-fits (f .caller) (f .key)) (common .1 .1 .0)
 
     right-below : Below top (rowAt (rowsAt u)) (f .curr) (rightOf (rowAt (rowsAt u)) (f .curr))
     right-below = record {

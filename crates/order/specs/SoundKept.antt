@@ -63,7 +63,9 @@ first-known : (top w : ℕ) (R : Table) (code key element : ℕ) → Structure t
 unfolding firstLine newestFirst
 first-known top w R code key element sound fits =
     if-both (λ (l : Line). AllHold top w R (facts l [])) (eqb code 1) (fits, (refl, (at-head (suc key), tt)))
-    (if-both (λ (l : Line). AllHold top w R (facts l [])) (eqb code 2) (fits, (refl, (at-head (suc key), tt))) (fits, (refl, (at-head key, tt))))
+    (if-both (λ (l : Line). AllHold top w R (facts l [])) (eqb code 2)
+    (fits, (refl, (at-head (suc key), tt)))
+    (fits, (refl, (at-head key, tt))))
   where
     at-head : (bound : ℕ) → AtMost top R 0 bound
     at-head bound = record { linked = sound .head .linked; low = omega (arith, head-rank top R) }

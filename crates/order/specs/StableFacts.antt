@@ -38,7 +38,13 @@ Apart (private {new = new} m) x = x ≢ new
 same-parts : (r s : Row) → r .key ≡ s .key → r .element ≡ s .element → r .backlink ≡ s .backlink → r .succ .right ≡ s .succ .right
     → r .succ .mark ≡ s .succ .mark → r .succ .flag ≡ s .succ .flag → r .standing ≡ s .standing → r ≡ s
 same-parts r s key element back right mark flag standing =
-    λ i. record { key = key i; element = element i; backlink = back i; succ = record { right = right i; mark = mark i; flag = flag i }; standing = standing i }
+    λ i. record {
+      key = key i;
+      element = element i;
+      backlink = back i;
+      succ = record { right = right i; mark = mark i; flag = flag i };
+      standing = standing i;
+    }
 
 pub held-unchanged : {top u w : ℕ} {R R' : Table} → Structure top R → (m : Move top u R R') → (x : ℕ) → Apart m x
     → standingOf R x ≡ Held w → R' x ≡ R x
@@ -48,7 +54,8 @@ held-unchanged sound (links m) x apart h =
     (m .right-other x (λ e. held-not-linked h (cc (m .prev-regular .linked))) apart) (m .mark= x) (m .flag= x) (m .standing-other x apart)
 held-unchanged sound (marks {prev = prev} m) x apart h =
     same-parts _ _ (m .key= x) (m .element= x) (m .back= x) (m .right= x)
-    (m .mark-other x (λ e. held-not-linked h (cc (flagged-right-linked sound prev (m .prev-flagged), m .prev-right)))) (m .flag= x) (m .standing= x)
+    (m .mark-other x (λ e. held-not-linked h (cc (flagged-right-linked sound prev (m .prev-flagged), m .prev-right))))
+    (m .flag= x) (m .standing= x)
 held-unchanged sound (unlinks {prev = prev} m) x apart h =
     let other : x ≢ prev = λ e. held-not-linked h (cc (sound .flag-regular prev (m .prev-flagged) .linked)) in
     same-parts _ _ (m .key= x) (m .element= x) (m .back= x) (m .right-other x other) (m .mark= x) (m .flag-other x other) (m .standing= x)
@@ -57,7 +64,8 @@ held-unchanged sound (flags m) x apart h =
     (m .flag-other x (λ e. held-not-linked h (cc (m .prev-regular .linked)))) (m .standing= x)
 held-unchanged sound (backlinks {prev = prev} {del = del} m) x apart h =
     same-parts _ _ (m .key= x) (m .element= x)
-    (m .back-other x (λ e. held-not-linked h (cc (help-del-linked sound prev del (m .help))))) (m .right= x) (m .mark= x) (m .flag= x) (m .standing= x)
+    (m .back-other x (λ e. held-not-linked h (cc (help-del-linked sound prev del (m .help)))))
+    (m .right= x) (m .mark= x) (m .flag= x) (m .standing= x)
 held-unchanged sound (private m) x apart h = m .other x apart
 
 apart-from-others : {top u w : ℕ} {R R' : Table} → u ≢ w → (m : Move top u R R') → (x : ℕ) → standingOf R x ≡ Held w → Apart m x
@@ -105,7 +113,8 @@ help-survives sound (private m) prev del (flagged-for h e) =
 -- a backlink once written is written again with the same row only
 pub helping-survives : {top u : ℕ} {R R' : Table} → Structure top R → Move top u R R' → (prev del : ℕ) → Helping R prev del
     → Helping R' prev del
-helping-survives {top = top} {R = R} {R' = R'} sound move prev del h = record { back-is = go move; help = help-survives sound move prev del (h .help) }
+helping-survives {top = top} {R = R} {R' = R'} sound move prev del h =
+    record { back-is = go move; help = help-survives sound move prev del (h .help) }
   where
     go : {u : ℕ} → Move top u R R' → backOf R' del ≡ prev
     go (nothing e) = cc (h .back-is)

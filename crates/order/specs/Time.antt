@@ -53,7 +53,8 @@ module _ (start : Catalogue) (calls : List Call) where
       → stateAt start calls (suc i) ≡ call (stateAt start calls i) x .state
   unfolding stateAt run
   state-after i x inside made =
-      ap (run start) (take-suc calls i x inside) ∙ run-append start (take i calls) _ ∙ ap (λ (y : Call). call (run start (take i calls)) y .state) made
+      ap (run start) (take-suc calls i x inside) ∙ run-append start (take i calls) _
+      ∙ ap (λ (y : Call). call (run start (take i calls)) y .state) made
 
   state-past : (i : ℕ) → length calls ≤ i → stateAt start calls (suc i) ≡ stateAt start calls i
   unfolding stateAt

@@ -111,7 +111,8 @@ module _ {top : ℕ} {R R' : Table} {prev del next : ℕ} (sound : Structure top
       ap (rankOf top R') (past-right= x h k),
       rank= (rightOf R (rightOf R x)),
       rank= z,
-      sound .gap-past-marked x z (flagged-before x h .flagged) (right-marked-before x h k) (regular-before z l) (omega (arith, rank= x, rank= z)),
+      sound .gap-past-marked x z (flagged-before x h .flagged) (right-marked-before x h k) (regular-before z l)
+          (omega (arith, rank= x, rank= z)),
     );
     flag-regular = λ x h. regular-after x (sound .flag-regular x (flagged-before x h .flagged));
     flag-not-at-tail = move .flag-other 1 (λ e. flagged-not-tail sound prev (move .prev-flagged) (sym e)) ∙ sound .flag-not-at-tail;

@@ -156,7 +156,8 @@ module _ (top : ℕ) {w : ℕ} {R R' : Table} {prev new next : ℕ} (found : R p
     (linked : IsLinked R prev) (not-tail : prev ≢ 1) (held : standingOf R new ≡ Held w) (unmarked : markOf R new ≡ false)
     (unflagged : flagOf R new ≡ false) (back : backOf R new ≡ 0)
     (below : rankOf top R prev < rankOf top R new) (above : rankOf top R new < rankOf top R next)
-    (put : TwoWritten R R' new (linkedRow (withSucc (R new) (succOf next false false))) prev (withSucc (R prev) (succOf new false false))) where
+    (put : TwoWritten R R' new (linkedRow (withSucc (R new) (succOf next false false))) prev
+    (withSucc (R prev) (succOf new false false))) where
   pub link-written : LinkMove top w R R' prev new next
   link-written = record {
     prev-regular = record { linked = linked; unmarked = ap (λ (s : Succ). s .mark) found };
