@@ -15,7 +15,7 @@ use Rattle.order.specs.Facts.{AtMost, Above, SaveOf, AllHold, facts}
 use Rattle.order.specs.Timeline.{RegularWithin, LacksWithin, marked-within, lacks-within, unmarked-or-lacks, lacks-past-other}
 use Rattle.order.specs.Lawful.{choose}
 use Rattle.order.specs.PlainMap.{delete}
-use Rattle.order.specs.Memory.{Tells, UnmarkedOrLacks}
+use Rattle.order.specs.Memory.{Tells, UnmarkedOrLacks, none-removed}
 use Rattle.order.specs.InsertMemory.{low-not-tail}
 use Rattle.order.specs.LineConditions.{has-key}
 use Rattle.model.specs.State.{if_then_else_, rowAt, succOf}
@@ -59,11 +59,8 @@ module _ (top : ℕ) (rowsAt : ℕ → List Row) (who : ℕ → ℕ) (sound : (i
       (λ other.
       let differ : rankOf top (rowAt (rowsAt u)) del ≢ suc k = has-key top (rowsAt u) del k fits .if-false other in
       record {
-        next = (
-          refl,
-          lacks-within (λ (i : ℕ). rowAt (rowsAt i)) who sound move t u prev del k was not-tail
-              (omega (arith, low .low)) (omega (arith, high .high)),
-        );
+        next = none-removed refl (lacks-within (λ (i : ℕ). rowAt (rowsAt i)) who sound move t u prev del k was not-tail
+            (omega (arith, low .low)) (omega (arith, high .high)));
         linking = inl tt;
       })
     where
@@ -79,7 +76,7 @@ module _ (top : ℕ) (rowsAt : ℕ → List Row) (who : ℕ → ℕ) (sound : (i
   tryFlag-12-tells k target prev del fits unmarked was low high save past =
       if-known (Tells me rowsAt t u (delete k) 0) (eqb del target)
       (λ _. record { next = record { operation-same = refl; past = (unmarked, past); removed-same = inl refl }; linking = inl tt })
-      (λ other. record { next = (refl, absent (eqb-false del target other) past); linking = inl tt })
+      (λ other. record { next = none-removed refl (absent (eqb-false del target other) past); linking = inl tt })
     where
       absent : del ≢ target → UnmarkedOrLacks (λ (i : ℕ). rowAt (rowsAt i)) t u k target → LacksWithin (λ (i : ℕ). rowAt (rowsAt i)) t u k
       absent other (inr lacks) = lacks

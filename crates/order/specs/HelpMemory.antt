@@ -14,7 +14,7 @@ use Rattle.order.specs.Stack.{Newest, nothing-pending, pending}
 use Rattle.order.specs.Facts.{SaveOf, AllHold, facts, helpCallerFacts}
 use Rattle.order.specs.Timeline.{LacksWithin, lacks-since-marked}
 use Rattle.order.specs.Lawful.{removedInHelp}
-use Rattle.order.specs.Memory.{Tells, UnmarkedOrLacks, helpOperation, helpCallerPast, cas-links-none}
+use Rattle.order.specs.Memory.{Tells, UnmarkedOrLacks, helpOperation, helpCallerPast, cas-links-none, is-removed, none-removed}
 use Rattle.model.specs.State.{rowAt}
 use Rattle.model.specs.Choices.{if-both}
 use Rattle.model.specs.Cas.{flaggedOnly, succAt}
@@ -56,15 +56,15 @@ module _ (top : ℕ) (rowsAt : ℕ → List Row) (who : ℕ → ℕ) (sound : (i
     linking = inl (cas-links-none (rowsAt u) prev _ _);
   }
   returns-tell k e prev del right (Delete6 target true) marked (same, (save, _)) past = record {
-    next = record {
+    next = is-removed (record {
       some-row = λ e. omega (arith, save .no-end);
       marked = ap (markOf (rowAt (rowsAt u))) (sym same) ∙ marked;
       has-element = refl;
-    };
+    });
     linking = inl (cas-links-none (rowsAt u) prev _ _);
   }
   returns-tell k e prev del right (Delete6 target false) marked (same, (save, _)) past = record {
-    next = (refl, target-gone k target save (ap (markOf (rowAt (rowsAt u))) (sym same) ∙ marked) past);
+    next = none-removed refl (target-gone k target save (ap (markOf (rowAt (rowsAt u))) (sym same) ∙ marked) past);
     linking = inl (cas-links-none (rowsAt u) prev _ _);
   }
 

@@ -16,7 +16,7 @@ use Rattle.order.specs.Facts.{AtMost, AllHold, facts}
 use Rattle.order.specs.Timeline.{RegularWithin, HasWithin, marked-within, has-within}
 use Rattle.order.specs.Writes.{two-written}
 use Rattle.order.specs.PlainMap.{insert}
-use Rattle.order.specs.Memory.{Tells, LinksRow}
+use Rattle.order.specs.Memory.{Tells, LinksRow, is-duplicate, no-row-free, is-added}
 use Rattle.order.specs.LineConditions.{has-key}
 use Rattle.kept.specs.Standing.{held-not-linked, free-not-linked, linked-inside, held-inside}
 use Rattle.model.specs.State.{rowAt, succOf}
@@ -54,7 +54,7 @@ module _ (top : ℕ) (rowsAt : ℕ → List Row) (who : ℕ → ℕ) (sound : (i
   unfolding insert-2
   insert-2-tells k e prev next fits unmarked was =
       if-known (Tells me rowsAt t u (insert k e) 0) (hasKey (rowsAt u) prev k)
-      (λ same. record { next = (_, had-key k prev next fits was same); linking = inl tt })
+      (λ same. record { next = is-duplicate (had-key k prev next fits was same); linking = inl tt })
       (λ _. record { next = record { operation-same = refl; past = unmarked; removed-same = inl refl }; linking = inl tt })
 
   -- Lines 20 to 22.
@@ -64,7 +64,7 @@ module _ (top : ℕ) (rowsAt : ℕ → List Row) (who : ℕ → ℕ) (sound : (i
   unfolding insert-20
   insert-20-tells k e new prev next fits unmarked was =
       if-known (Tells me rowsAt t u (insert k e) 0) (hasKey (rowsAt u) prev k)
-      (λ same. record { next = (_, had-key k prev next fits was same); linking = inl (λ h. absurd (free-not-linked refl h)) })
+      (λ same. record { next = is-duplicate (had-key k prev next fits was same); linking = inl (λ h. absurd (free-not-linked refl h)) })
       (λ _. record { next = record { operation-same = refl; past = unmarked; removed-same = inl refl }; linking = inl tt })
 
   module _ (hs : List Pending) (f : InsertFrame) (unmarked : markOf (rowAt (rowsAt t)) (f .prev) ≡ false) where
@@ -77,7 +77,7 @@ module _ (top : ℕ) (rowsAt : ℕ → List Row) (who : ℕ → ℕ) (sound : (i
           next = record { operation-same = refl; past = unmarked; removed-same = inl refl };
           linking = inl (λ h. absurd (held-not-linked refl h));
         })
-        (record { next = tt; linking = inl tt })
+        (record { next = no-row-free; linking = inl tt })
 
     -- Line 6.
     insert-6-tells : (next new : ℕ) → Tells me rowsAt t u (insert (f .key) (f .element)) 0 (insert-6 (rowsAt u) f next new)
@@ -94,7 +94,7 @@ module _ (top : ℕ) (rowsAt : ℕ → List Row) (who : ℕ → ℕ) (sound : (i
     insert-10-11-tells next new (fits, (alone, (low, (high, (holding, _))))) =
         if-both (Tells me rowsAt t u (insert (f .key) (f .element)) 0)
         (sameSucc (succAt (set (rowsAt u) new stored) (f .prev)) (succOf next false false))
-        (record { next = linked; linking = inr refl })
+        (record { next = is-added linked; linking = inr refl })
         (if-both (λ (l : Line). Tells me rowsAt t u (insert (f .key) (f .element)) 0 (goWriting (OneRow new stored) l))
         (flaggedOnly (succAt (set (rowsAt u) new stored) (f .prev)))
         (record { next = record { operation-same = refl; past = unmarked; removed-same = inl refl }; linking = inl (λ h. h) })

@@ -10,10 +10,10 @@ use native.Mathlib.Decide.{ℕ-discrete, decLe}
 use lib.ListN.{length}
 use Rattle.order.specs.Table.{Table, markOf}
 use Rattle.order.specs.MarkOf.{mark-of}
-use Rattle.order.specs.PlainMap.{Operation, operation, search, insert, delete}
+use Rattle.order.specs.PlainMap.{Operation, operation, insert}
 use Rattle.order.specs.Lawful.{noRowRemoved}
 use Rattle.order.specs.Asking.{Agrees}
-use Rattle.order.specs.Memory.{Answered, LinksRow}
+use Rattle.order.specs.Memory.{Answered, LinksRow, is-added}
 use Rattle.order.specs.Demand.{stateAt, Accepts, Request, Removing}
 use Rattle.order.specs.Time.{Ready, Happening, nothing-happens, submits, steps, happening, owned-at, structure-at, move-at, TableAt, grown-at}
 use Rattle.order.specs.Running.{removedAt, Running, Ends}
@@ -166,9 +166,7 @@ module _ {top : ℕ} {start : Catalogue} {calls : List Call} (ready : Ready top 
   -- the add links its row
   answer-links : (w t u : ℕ) (R' : Table) (y : ℕ) (o : Operation) → Answered w (TableAt ready) t u R' y o Added
       → (k : ℕ) × (x : ℕ) × LinksRow w (TableAt ready u) R' k x
-  answer-links w t u R' y (search k) h = absurd h
-  answer-links w t u R' y (insert k x) h = (k, x, h)
-  answer-links w t u R' y (delete k) h = absurd h
+  answer-links w t u R' y (insert k x) (is-added h) = (k, x, h)
 
   ends-link : (s w code key element T : ℕ) (e : Ends ready s w code key element T Added)
       → (k : ℕ) × (x : ℕ) × LinksRow w (TableAt ready T) (TableAt ready (suc T)) k x

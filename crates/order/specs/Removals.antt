@@ -17,7 +17,7 @@ use Rattle.order.specs.Stack.{stackOf}
 use Rattle.order.specs.Timeline.{marked-within}
 use Rattle.order.specs.PlainMap.{Operation, operation, search, insert, delete}
 use Rattle.order.specs.Lawful.{noRowRemoved, removedRow, removedInHelp}
-use Rattle.order.specs.Memory.{Answered, RemovesRow, operationOf}
+use Rattle.order.specs.Memory.{Answered, RemovesRow, operationOf, is-removed, none-removed}
 use Rattle.order.specs.Demand.{stateAt, lineAt, Request, SetFlag, Removing}
 use Rattle.order.specs.Time.{Ready, sound-at, structure-at, mover-at, move-at, submit-taken, TableAt}
 use Rattle.order.specs.Running.{removedAt, Claimed, Running, Ends}
@@ -28,7 +28,7 @@ use Rattle.model.specs.Step.{isRequest}
 use Rattle.model.specs.declared.Pending.{Pending}
 use Rattle.model.specs.declared.Catalogue.{Catalogue}
 use Rattle.model.specs.declared.Answer.{Answer}
-use Rattle.model.specs.declared.Answer.the-variants.{NoAnswer, Found, Absent, Added, Duplicate, Removed, Full}
+use Rattle.model.specs.declared.Answer.the-variants.{Absent, Removed}
 use Rattle.model.specs.declared.HelpCaller.{HelpCaller}
 use Rattle.model.specs.declared.HelpCaller.the-variants.{Insert8, Insert16, Delete6}
 use Rattle.model.specs.declared.HelpFrame.{HelpFrame}
@@ -99,13 +99,8 @@ module _ {top : ℕ} {start : Catalogue} {calls : List Call} (ready : Ready top 
 
   answer-removed : (w t u : ℕ) (R' : Table) (y k : ℕ) (a : Answer) → y ≢ noRowRemoved → Answered w (TableAt ready) t u R' y (delete k) a
       → (e : ℕ) × (a ≡ Removed e) × RemovesRow (TableAt ready u) y e
-  answer-removed w t u R' y k NoAnswer some h = absurd h
-  answer-removed w t u R' y k (Found e) some h = absurd h
-  answer-removed w t u R' y k Absent some h = absurd (some (h .0))
-  answer-removed w t u R' y k Added some h = absurd h
-  answer-removed w t u R' y k Duplicate some h = absurd h
-  answer-removed w t u R' y k (Removed e) some h = (e, refl, h)
-  answer-removed w t u R' y k Full some h = absurd h
+  answer-removed w t u R' y k Absent some (none-removed no-row h) = absurd (some no-row)
+  answer-removed w t u R' y k (Removed e) some (is-removed h) = (e, refl, h)
 
   -- a delete that removes row y ends with Removed and the element of y
   pub removal-answer : (s w code key element f y : ℕ) (a : Answer) → Ends ready s w code key element f a → removedAt ready f w ≡ y

@@ -12,7 +12,7 @@ use Rattle.order.specs.Table.{Table}
 use Rattle.order.specs.PlainMap.{PlainMap, Operation, operation, search, insert, delete, keyOf, answerHolding, answerOf, afterAsking}
 use Rattle.order.specs.MapOfTable.{map-has, map-lacks, setting-other}
 use Rattle.order.specs.Asking.{Agrees, added-holds}
-use Rattle.order.specs.Memory.{Answered}
+use Rattle.order.specs.Memory.{Answered, is-found, is-absent}
 use Rattle.order.specs.Demand.{Request, Finished}
 use Rattle.order.specs.Time.{Ready, structure-at, TableAt}
 use Rattle.order.specs.Courses.{ended, ended-not-running}
@@ -25,7 +25,7 @@ use Rattle.kept.specs.Conditions.{contradiction}
 use Rattle.model.specs.State.{emptyCatalogue}
 use Rattle.model.specs.declared.Catalogue.{Catalogue}
 use Rattle.model.specs.declared.Answer.{Answer}
-use Rattle.model.specs.declared.Answer.the-variants.{NoAnswer, Found, Absent, Added, Duplicate, Removed, Full}
+use Rattle.model.specs.declared.Answer.the-variants.{Found, Absent, Added, Removed}
 use Rattle.model.specs.declared.Call.{Call}
 
 -- Every delete of key k finished before position f: none was unfinished then, and none is submitted later.
@@ -106,19 +106,14 @@ module _ {top : ℕ} {start : Catalogue} {calls : List Call} (ready : Ready top 
 
   found-with : (v q h : ℕ) (R' : Table) (removed : ℕ) (a : Answer) → f < q → Answered v (TableAt ready) (suc q) h R' removed (search k) a
       → a ≡ Found e
-  found-with v q h R' removed NoAnswer later x = absurd x
-  found-with v q h R' removed (Found e') later x =
+  found-with v q h R' removed (Found e') later (is-found x) =
       let at = map-has (structure-at ready (x .time)) (is-map-at ready (x .time)) k e' (x .has) in
       let held = holds-from (x .time) (omega (arith, x .after)) in
       ap Found (cc)
-  found-with v q h R' removed Absent later x =
+  found-with v q h R' removed Absent later (is-absent x) =
       let at = map-lacks (structure-at ready (x .time)) (is-map-at ready (x .time)) k (x .lacks) in
       let held = holds-from (x .time) (omega (arith, x .after)) in
       contradiction (cc)
-  found-with v q h R' removed Added later x = absurd x
-  found-with v q h R' removed Duplicate later x = absurd x
-  found-with v q h R' removed (Removed e') later x = absurd x
-  found-with v q h R' removed Full later x = absurd x
 
   pub found-after-added : (q v x h : ℕ) (a : Answer) → Request start calls q v 1 k x → f < q → Finished start calls q v h a → a ≡ Found e
   found-after-added q v x h a asked later ends-so =

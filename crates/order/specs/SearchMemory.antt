@@ -15,7 +15,7 @@ use Rattle.order.specs.Facts.{AtMost, Above, Below, AllHold, reach, sear
 use Rattle.order.specs.Timeline.{RegularWithin, marked-within, unmarked-earlier, regular-within, lacks-within}
 use Rattle.order.specs.PlainMap.{search}
 use Rattle.order.specs.SearchSteps.{reach-fits}
-use Rattle.order.specs.Memory.{Tells, searchOperation, searchPast, searchCallerPast, cas-links-none}
+use Rattle.order.specs.Memory.{Tells, searchOperation, searchPast, searchCallerPast, cas-links-none, is-found, is-absent}
 use Rattle.order.specs.InsertMemory.{low-not-tail, had-key, insert-2-tells, insert-20-tells}
 use Rattle.order.specs.DeleteMemory.{delete-2-tells, tryFlag-12-tells}
 use Rattle.order.specs.LineConditions.{has-key, reaches-rank}
@@ -44,12 +44,12 @@ module _ (top : ℕ) (rowsAt : ℕ → List Row) (who : ℕ → ℕ) (sound : (i
   unfolding search-2
   search-2-tells k curr next fits was low high =
       if-known (Tells me rowsAt t u (search k) 0) (hasKey (rowsAt u) curr k)
-      (λ same. record { next = had-key top rowsAt who sound move t u since me k curr next fits was same; linking = inl tt })
+      (λ same. record { next = is-found (had-key top rowsAt who sound move t u since me k curr next fits was same); linking = inl tt })
       (λ other.
       let differ : rankOf top (rowAt (rowsAt u)) curr ≢ suc k = has-key top (rowsAt u) curr k fits .if-false other in
       record {
-        next = lacks-within (λ (i : ℕ). rowAt (rowsAt i)) who sound move t u curr next k was
-            (low-not-tail top (rowsAt u) curr (suc k) k fits (omega arith) low) (omega (arith, low .low)) (high .high);
+        next = is-absent (lacks-within (λ (i : ℕ). rowAt (rowsAt i)) who sound move t u curr next k was
+            (low-not-tail top (rowsAt u) curr (suc k) k fits (omega arith) low) (omega (arith, low .low)) (high .high));
         linking = inl tt;
       })
 
