@@ -8,7 +8,7 @@ use mathlib.Core.List.{List}
 use native.Mathlib.Omega.{arith}
 use lib.Dec.{ltb}
 use lib.ListN.{set}
-use Rattle.order.specs.Table.{markOf, rankOf}
+use Rattle.order.specs.Table.{markOf, rankOf, tablesOf}
 use Rattle.order.specs.Structure.{Structure}
 use Rattle.order.specs.StructureFacts.{tail-rank}
 use Rattle.order.specs.Moves.{Move}
@@ -42,15 +42,15 @@ low-not-tail top rows x bound k fits small low e = omega (arith, low .low, ap (r
 module _ (top : ℕ) (rowsAt : ℕ → List Row) (who : ℕ → ℕ) (sound : (i : ℕ) → Structure top (rowAt (rowsAt i)))
     (move : (i : ℕ) → Move top (who i) (rowAt (rowsAt i)) (rowAt (rowsAt (suc i)))) (t u : ℕ) (since : t ≤ u) (me : ℕ) where
   -- curr has the key: the key had its element when curr was regular
-  pub had-key : (k x n : ℕ) → suc k < top → RegularWithin (λ (i : ℕ). rowAt (rowsAt i)) t u x n → hasKey (rowsAt u) x k ≡ true
-      → HasWithin (λ (i : ℕ). rowAt (rowsAt i)) t u k (rowAt (rowsAt u) x .element)
+  pub had-key : (k x n : ℕ) → suc k < top → RegularWithin (tablesOf rowsAt) t u x n → hasKey (rowsAt u) x k ≡ true
+      → HasWithin (tablesOf rowsAt) t u k (rowAt (rowsAt u) x .element)
   had-key k x n fits was same =
       let found = has-key top (rowsAt u) x k fits .if-true same in
-      has-within (λ (i : ℕ). rowAt (rowsAt i)) who sound move t u x n k was (found .no-end) (found .the-key)
+      has-within (tablesOf rowsAt) who sound move t u x n k was (found .no-end) (found .the-key)
 
   -- Lines 2 and 3.
   pub insert-2-tells : (k e prev next : ℕ) → suc k < top → markOf (rowAt (rowsAt t)) prev ≡ false
-      → RegularWithin (λ (i : ℕ). rowAt (rowsAt i)) t u prev next → Tells me rowsAt t u (insert k e) 0 (insert-2 (rowsAt u) k e prev next)
+      → RegularWithin (tablesOf rowsAt) t u prev next → Tells me rowsAt t u (insert k e) 0 (insert-2 (rowsAt u) k e prev next)
   unfolding insert-2
   insert-2-tells k e prev next fits unmarked was =
       if-known (Tells me rowsAt t u (insert k e) 0) (hasKey (rowsAt u) prev k)
@@ -59,7 +59,7 @@ module _ (top : ℕ) (rowsAt : ℕ → List Row) (who : ℕ → ℕ) (sound : (i
 
   -- Lines 20 to 22.
   pub insert-20-tells : (k e new prev next : ℕ) → suc k < top → markOf (rowAt (rowsAt t)) prev ≡ false
-      → RegularWithin (λ (i : ℕ). rowAt (rowsAt i)) t u prev next
+      → RegularWithin (tablesOf rowsAt) t u prev next
       → Tells me rowsAt t u (insert k e) 0 (insert-20 (rowsAt u) k e new prev next)
   unfolding insert-20
   insert-20-tells k e new prev next fits unmarked was =
@@ -135,7 +135,7 @@ module _ (top : ℕ) (rowsAt : ℕ → List Row) (who : ℕ → ℕ) (sound : (i
     insert-18-tells new marked = record {
       next = record {
         operation-same = refl;
-        past = marked-within (λ (i : ℕ). rowAt (rowsAt i)) who sound move t u (f .prev) since unmarked marked .back-unmarked;
+        past = marked-within (tablesOf rowsAt) who sound move t u (f .prev) since unmarked marked .back-unmarked;
         removed-same = inl refl;
       };
       linking = inl tt;

@@ -14,6 +14,7 @@ use Rattle.order.specs.SearchMemory.{search-tells}
 use Rattle.order.specs.InsertMemory.{insert-tells}
 use Rattle.order.specs.DeleteMemory.{flag-tells}
 use Rattle.order.specs.HelpMemory.{help-tells}
+use Rattle.order.specs.Table.{tablesOf}
 use Rattle.kept.specs.Conditions.{clash}
 use Rattle.model.specs.State.{rowAt, idle}
 use Rattle.model.specs.Step.{lineEffect, effectOf}
@@ -26,7 +27,7 @@ use Rattle.model.specs.declared.Line.the-variants.{Idle, Search, Insert, Flag, 
 module _ (top : ℕ) (rowsAt : ℕ → List Row) (who : ℕ → ℕ) (sound : (i : ℕ) → Structure top (rowAt (rowsAt i)))
     (move : (i : ℕ) → Move top (who i) (rowAt (rowsAt i)) (rowAt (rowsAt (suc i)))) (t u : ℕ) (since : t ≤ u) (me : ℕ) where
   line-tells : (count : ℕ) (last : Pending) (hs : List Pending) (l : Line) → Newest count last hs → idle l ≡ false
-      → AllHold top me (rowAt (rowsAt u)) (facts l hs) → Past (λ (i : ℕ). rowAt (rowsAt i)) t u l
+      → AllHold top me (rowAt (rowsAt u)) (facts l hs) → Past (tablesOf rowsAt) t u l
       → Tells me rowsAt t u (operationOf l) (removedRow l) (lineEffect (rowsAt u) me count last l)
   unfolding lineEffect
   line-tells count last hs (Idle a) newest busy known past = absurd (clash refl busy)
@@ -39,7 +40,7 @@ module _ (top : ℕ) (rowsAt : ℕ → List Row) (who : ℕ → ℕ) (sound : (i
       help-tells top rowsAt who sound move t u since me f past l count last hs newest known
 
   pub effect-tells : (k : Worker) → idle (k .line) ≡ false → AllHold top me (rowAt (rowsAt u)) (facts (k .line) (stackOf k))
-      → Past (λ (i : ℕ). rowAt (rowsAt i)) t u (k .line)
+      → Past (tablesOf rowsAt) t u (k .line)
       → Tells me rowsAt t u (operationOf (k .line)) (removedRow (k .line)) (effectOf (rowsAt u) me k)
   unfolding effectOf
   effect-tells k busy known past = line-tells (k .count) _ (stackOf k) (k .line) (newest (k .helps) (k .count)) busy known past

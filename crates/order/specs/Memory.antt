@@ -9,7 +9,7 @@ use native.Mathlib.Omega.{arith}
 use native.Mathlib.Decide.{ℕ-discrete, decLt}
 use lib.ListN.{length, set, List·getD-eq-default, length-set}
 use lib.Seq.{getD-set-same, getD-set-other}
-use Rattle.order.specs.Table.{Table, markOf, standingOf, IsLinked}
+use Rattle.order.specs.Table.{Table, markOf, standingOf, IsLinked, tablesOf}
 use Rattle.order.specs.Timeline.{LacksWithin, HasWithin, RegularWithin}
 use Rattle.order.specs.PlainMap.{Operation, search, insert, delete}
 use Rattle.order.specs.Lawful.{noRowRemoved, removedRow}
@@ -207,7 +207,7 @@ links-none rows (OneRow i r) none x h = go (ℕ-discrete x i) (decLt i (length r
 
 -- The effect e of a line of worker me that belongs to the operation o and removes the row `removed`.
 pub record Tells (me : ℕ) (rowsAt : ℕ → List Row) (t u : ℕ) (o : Operation) (removed : ℕ) (e : Effect) : Type 0 where
-  pub next : NextLine me (λ (i : ℕ). rowAt (rowsAt i)) t u (rowAt (written (rowsAt u) (e .write))) removed o (e .line)
+  pub next : NextLine me (tablesOf rowsAt) t u (rowAt (written (rowsAt u) (e .write))) removed o (e .line)
   pub linking : LinksNone (rowsAt u) (e .write) ⊎ (e .line ≡ Idle Added)
 
 -- a C&S links no row
