@@ -17,7 +17,7 @@ use Rattle.model.specs.declared.Line.{Line}
 use Rattle.model.specs.declared.Line.the-variants.{Idle, Search, Insert, Flag, Help}
 use Rattle.kept.specs.Ways.{workerIn, effectIn, lineOf}
 use Rattle.kept.specs.Sized.{Sized, EightHelps}
-use Rattle.kept.specs.Facts.{RowNumbers, free-row-numbers, HelpsWell, WellFormed}
+use Rattle.kept.specs.WellFormedFacts.{RowNumbers, free-row-numbers, HelpsWell, WellFormed}
 use Rattle.kept.specs.LineNumbers.{search-numbers, insert-numbers, flag-numbers, help-numbers}
 use Rattle.kept.specs.Sound.{Sound, GoodRows}
 use Rattle.kept.specs.SoundInsert.{insert-line-sound}

@@ -16,7 +16,7 @@ use Rattle.model.specs.declared.Line.{Line}
 use Rattle.model.specs.declared.Effect.{Effect}
 use Rattle.model.specs.declared.Stack.{Stack}
 use Rattle.model.specs.declared.Stack.the-variants.{Keep, Push, Pop}
-use Rattle.kept.specs.Facts.{HelpsWell}
+use Rattle.kept.specs.WellFormedFacts.{HelpsWell}
 use Rattle.kept.specs.Sound.{StackFits}
 use Rattle.kept.specs.Conditions.{clash, every, if-every}
 use Rattle.kept.specs.Stores.{store-keeps}

@@ -5,7 +5,7 @@ pub mod FreeRows
 pub mod IdleLine
 pub mod Ways
 pub mod Sized
-pub mod Facts
+pub mod WellFormedFacts
 pub mod LineNumbers
 pub mod NextLine
 pub mod Sound

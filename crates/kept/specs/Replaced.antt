@@ -16,7 +16,7 @@ use Rattle.model.specs.declared.Standing.the-variants.{Held, Linked}
 use Rattle.model.specs.declared.Effect.{Effect}
 use Rattle.kept.specs.Ways.{workerIn, lineOf}
 use Rattle.kept.specs.Sized.{Sized}
-use Rattle.kept.specs.Facts.{RowWell, HelpsWell, WorkerWell, WellFormed}
+use Rattle.kept.specs.WellFormedFacts.{RowWell, HelpsWell, WorkerWell, WellFormed}
 use Rattle.kept.specs.Sound.{SameSave, Standings, kept, taken, given-up, Sound}
 use Rattle.kept.specs.Stores.{after-store}
 use Rattle.kept.specs.Standing.{held-not-linked, free-not-held, free-not-linked, one-holder}

@@ -16,7 +16,7 @@ use Rattle.model.specs.declared.Catalogue.{Catalogue}
 use Rattle.model.specs.declared.Standing.the-variants.{Linked}
 use Rattle.kept.specs.Ways.{effectIn, worker-step-ways, step-ways, submit-ways}
 use Rattle.kept.specs.Sized.{Sized, step-sized}
-use Rattle.kept.specs.Facts.{well-formed-facts}
+use Rattle.kept.specs.WellFormedFacts.{well-formed-facts}
 use Rattle.kept.specs.Sound.{SameSave}
 use Rattle.kept.specs.EffectSound.{effect-sound}
 use Rattle.kept.specs.Replaced.{linked-kept}

@@ -28,7 +28,7 @@ use Rattle.model.specs.declared.InsertLine.{InsertLine}
 use Rattle.model.specs.declared.InsertLine.the-variants.{Insert4, Insert6, Insert11, Insert17, Insert18}
 use Rattle.model.specs.declared.Write.{Write}
 use Rattle.model.specs.declared.Write.the-variants.{TwoRows}
-use Rattle.kept.specs.Facts.{RowNumbers, free-row-numbers}
+use Rattle.kept.specs.WellFormedFacts.{RowNumbers, free-row-numbers}
 use Rattle.kept.specs.Sound.{Standings, kept, taken, given-up, RowStep, Sound, SuccNumbers, GoodRows, with-succ, is-inside, succ-written, writes, reads}
 use Rattle.kept.specs.NextLine.{NextLine, to-idle, to-insert, to-help-flagged, to-search-from}
 use Rattle.kept.specs.LineNumbers.{InsertNumbers}

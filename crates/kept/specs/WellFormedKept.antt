@@ -20,7 +20,7 @@ use Rattle.model.specs.declared.Call.the-variants.{Submit, Step}
 use Rattle.model.specs.declared.SearchCaller.the-variants.{Search1, Insert1, Delete1}
 use Rattle.kept.specs.Ways.{workerIn, effectIn, worker-step-ways, step-ways, submit-ways, lineOf}
 use Rattle.kept.specs.Sized.{Sized, empty-sized, worker-step-sized, step-sized, submit-sized}
-use Rattle.kept.specs.Facts.{WellFormed, well-formed-facts, well-formed-test}
+use Rattle.kept.specs.WellFormedFacts.{WellFormed, well-formed-facts, well-formed-test}
 use Rattle.kept.specs.NextLine.{NextLine, to-search-from}
 use Rattle.kept.specs.Sound.{Sound, reads}
 use Rattle.kept.specs.EffectSound.{good-rows, effect-sound}

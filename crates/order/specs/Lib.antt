@@ -11,7 +11,7 @@ pub mod UnlinkKeeps
 pub mod FlagKeeps
 pub mod BacklinkKeeps
 pub mod PrivateKeeps
-pub mod Kept
+pub mod MovesKeep
 pub mod Distinct
 pub mod Chain
 pub mod Walk

@@ -11,7 +11,7 @@ use Rattle.order.specs.StructureFacts.{above-not-head}
 use Rattle.order.specs.Unchanged.{same-regular-after, same-regular-before}
 use Rattle.order.specs.LinkKeeps.{fresh}
 use Rattle.order.specs.MarkKeeps.{del-regular, del-not-tail, prev-below, regular-before}
-use Rattle.order.specs.Kept.{Grown, grow}
+use Rattle.order.specs.MovesKeep.{Grown, grow}
 use Rattle.order.specs.TableMap.{Has, Lacks, rank-of-save, one-row}
 use Rattle.order.specs.PrivateKeeps.{regular-after as private-regular-after, regular-before as private-regular-before}
 use Rattle.kept.specs.Conditions.{clash}

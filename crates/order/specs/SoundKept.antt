@@ -12,7 +12,7 @@ use Rattle.order.specs.Table.{Table, standingOf, tableOf}
 use Rattle.order.specs.Structure.{Structure}
 use Rattle.order.specs.StructureFacts.{head-rank}
 use Rattle.order.specs.Moves.{Move, nothing, links, marks, unlinks, flags, backlinks, private}
-use Rattle.order.specs.Kept.{move-keeps-structure}
+use Rattle.order.specs.MovesKeep.{move-keeps-structure}
 use Rattle.order.specs.Stack.{newestFirst, stackOf, stackAfter, stacked-stack, stackIn}
 use Rattle.order.specs.Facts.{AtMost, AllHold, facts}
 use Rattle.order.specs.StableFacts.{others-leave-held, facts-survive}

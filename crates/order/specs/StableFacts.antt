@@ -12,7 +12,7 @@ use Rattle.order.specs.Structure.{Structure, Helpable, flagged-for, alre
 use Rattle.order.specs.StructureFacts.{flagged-right-linked, help-del-linked, help-back, help-unique}
 use Rattle.order.specs.Moves.{Move, nothing, links, marks, unlinks, flags, backlinks, private}
 use Rattle.order.specs.PrivateKeeps.{linked-unchanged}
-use Rattle.order.specs.Kept.{grow, grow-rank}
+use Rattle.order.specs.MovesKeep.{grow, grow-rank}
 use Rattle.order.specs.Facts.{Fact, key-fits, same-row, none-pending, at-most, above, below, save-of, marked, frozen, helpable, helping, holding, AtMost, Above, SaveOf, Helping, Holds, AllHold}
 use Rattle.kept.specs.Conditions.{clash, contradiction}
 use Rattle.kept.specs.Standing.{held-not-linked}

@@ -18,7 +18,7 @@ use Rattle.order.specs.Owners.{Owned, event-keeps-owned}
 use Rattle.order.specs.Demand.{stateAt, Accepts}
 use Rattle.order.specs.OneRequest.{any-default}
 use Rattle.order.specs.Timeline.{grown-later}
-use Rattle.order.specs.Kept.{Grown}
+use Rattle.order.specs.MovesKeep.{Grown}
 use Rattle.kept.specs.Ways.{accepted-not-refused, lineOf}
 use Rattle.kept.specs.Conditions.{contradiction}
 use Rattle.model.specs.State.{rowAt, idle}

@@ -11,7 +11,7 @@ use Rattle.order.specs.Table.{Table, rightOf, markOf, backOf, rank, rank
 use Rattle.order.specs.Structure.{Structure}
 use Rattle.order.specs.Moves.{Move}
 use Rattle.order.specs.StructureFacts.{marked-not-head, marked-not-tail}
-use Rattle.order.specs.Kept.{Grown, grown-refl, grown-trans, grow}
+use Rattle.order.specs.MovesKeep.{Grown, grown-refl, grown-trans, grow}
 use Rattle.order.specs.MarkOf.{mark-of, marked-by}
 use Rattle.order.specs.TableMap.{Has, Lacks, rank-of-save, lacks-between, lacks-marked}
 use Rattle.order.specs.MapMoves.{mark-removes}
