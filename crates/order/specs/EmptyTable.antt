@@ -5,7 +5,6 @@ use mathlib.Core.Bool.{false}
 use mathlib.Core.Path.{_≡_, refl, ap, sym, subst}
 use mathlib.Core.Logic.{_≢_}
 use native.Mathlib.Omega.{arith}
-use lib.ListN.{getD, replicate}
 use Rattle.model.specs.declared.Row.{Row}
 use Rattle.model.specs.State.{freeRow, rowAt, emptyCatalogue}
 use Rattle.order.specs.Table.{Table, rightOf, markOf, flagOf, backOf, rankOf, IsLinked, Regular}
@@ -13,18 +12,14 @@ use Rattle.order.specs.Structure.{Structure}
 use Rattle.order.specs.StructureFacts.{head-rank, tail-rank}
 use Rattle.kept.specs.Conditions.{clash}
 use Rattle.kept.specs.Standing.{free-not-linked}
+use Rattle.kept.specs.Stores.{copy-at}
 
 abbrev pub emptyTable : Table
 emptyTable = rowAt (emptyCatalogue .rows)
 
--- past the end of a list of free rows stands a free row too
-free-everywhere : (n x : ℕ) → getD (replicate n freeRow) x freeRow ≡ freeRow
-free-everywhere zero x = refl
-free-everywhere (suc n) zero = refl
-free-everywhere (suc n) (suc x) = free-everywhere n x
-
+-- past the end of the rows stands a free one too
 pub empty-save : (x : ℕ) → emptyTable (suc (suc x)) ≡ freeRow
-empty-save x = free-everywhere 126 x
+empty-save x = copy-at 126 freeRow x
 
 pub empty-unflagged : (x : ℕ) → flagOf emptyTable x ≡ false
 empty-unflagged zero = refl
