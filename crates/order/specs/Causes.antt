@@ -11,7 +11,7 @@ use Rattle.order.specs.StructureFacts.{above-not-head, flagged-right-abo
 use Rattle.order.specs.Moves.{LinkMove, MarkMove}
 use Rattle.order.specs.PlainMap.{PlainMap}
 use Rattle.order.specs.Lawful.{noRowRemoved, idle-removes-none}
-use Rattle.order.specs.Events.{StepTaken}
+use Rattle.order.specs.Events.{StepTaken, next-line}
 use Rattle.order.specs.Owners.{Owner}
 use Rattle.order.specs.Memory.{links-none}
 use Rattle.order.specs.Demand.{stateAt, lineAt, Accepts}
@@ -21,11 +21,9 @@ use Rattle.order.specs.OneRequest.{idle-not-busy}
 use Rattle.order.specs.Courses.{Current, current}
 use Rattle.order.specs.MapAt.{mapAt, same-rows-map, Turn, turns-nothing, turns-link, turns-mark, turn-at}
 use Rattle.model.specs.State.{rowAt, idle}
-use Rattle.model.specs.Answers.{line-after}
 use Rattle.model.specs.Step.{written}
 use Rattle.model.specs.declared.Row.{Row}
 use Rattle.model.specs.declared.Standing.the-variants.{Linked}
-use Rattle.model.specs.declared.Worker.{Worker}
 use Rattle.model.specs.declared.Catalogue.{Catalogue}
 use Rattle.model.specs.declared.Answer.the-variants.{Added}
 use Rattle.model.specs.declared.Line.the-variants.{Idle}
@@ -47,9 +45,6 @@ module _ {top : ℕ} {start : Catalogue} {calls : List Call} (ready : Ready top 
     link-cause : (prev new next : ℕ) → LinkMove top w (TableAt ready t) (TableAt ready (suc t)) prev new next → Cause t
     link-cause prev new next m = go (current ready t w)
       where
-        next-line : lineAt start calls (suc t) w ≡ effectIn (stateAt start calls t) w .line
-        next-line = ap (λ (k : Worker). k .line) (taken .worker .now) ∙ line-after _ _
-
         new-linked : standingOf (rowAt (written (stateAt start calls t .rows) (effectIn (stateAt start calls t) w .write))) new ≡ Linked
         new-linked = subst (λ (rows : List Row). standingOf (rowAt rows) new ≡ Linked) (taken .rows-written) (m .new-linked)
 
@@ -57,7 +52,7 @@ module _ {top : ℕ} {start : Catalogue} {calls : List Call} (ready : Ready top 
         answers c =
             elim (step-tells ready (c .request) w (c .code) (c .key) (c .element) t (c .running) (taken .was-busy) .linking) [
               | inl none ↦ absurd (held-not-linked (m .new-held) (links-none (stateAt start calls t .rows) _ none new new-linked))
-              | inr is ↦ next-line ∙ is
+              | inr is ↦ next-line taken ∙ is
             ]
 
         ended-so : (c : Current ready w t) → Continues ready (c .request) w (c .code) (c .key) (c .element) t → Cause t

@@ -13,11 +13,11 @@ use Rattle.order.specs.Demand.{stateAt, lineAt, Request, BusySince, Fini
 use Rattle.order.specs.Time.{Ready, Happening, nothing-happens, submits, steps, happening, submit-taken}
 use Rattle.order.specs.Running.{removedAt, Running, Ends, begins, Continues, runs, ends-now, continues}
 use Rattle.order.specs.Compared.{Compared, less, equal, more, compared}
+use Rattle.order.specs.Events.{other-line}
 use Rattle.kept.specs.Conditions.{clash}
 use Rattle.kept.specs.Ways.{lineOf}
 use Rattle.model.specs.State.{idle}
 use Rattle.model.specs.Run.{run}
-use Rattle.model.specs.declared.Worker.{Worker}
 use Rattle.model.specs.declared.Catalogue.{Catalogue}
 use Rattle.model.specs.declared.Answer.{Answer}
 use Rattle.model.specs.declared.Call.{Call}
@@ -102,11 +102,11 @@ module _ {top : ℕ} {start : Catalogue} {calls : List Call} (ready : Ready top 
           running =
               begins ready u w code key element (subst (λ (x : ℕ). Request start calls u x code key element) (sym e) a);
         })
-        | no e ↦ kept (ap (λ (k : Worker). k .line) (taken .worker .others w e)) h
+        | no e ↦ kept (other-line (taken .worker) w e) h
       ]
       go (inl h) (steps v a taken) = elim (ℕ-discrete w v) [
         | yes e ↦ absurd (clash h (ap (λ (x : ℕ). idle (lineAt start calls u x)) e ∙ taken .was-busy))
-        | no e ↦ kept (ap (λ (k : Worker). k .line) (taken .worker .others w e)) h
+        | no e ↦ kept (other-line (taken .worker) w e) h
       ]
 
   -- two requests of one worker do not run at one time

@@ -2,7 +2,7 @@
 -- these three cases.
 use Prim.Native.Nat.{ℕ, _<_}
 use mathlib.Core.Bool.{true, false}
-use mathlib.Core.Path.{_≡_, refl, sym, subst}
+use mathlib.Core.Path.{_≡_, refl, sym, subst, ap, _∙_}
 use mathlib.Core.Logic.{_≢_}
 use native.Mathlib.Omega.{arith}
 use native.Mathlib.Decide.{ℕ-discrete}
@@ -13,6 +13,7 @@ use Rattle.model.specs.State.{idleWorker, idle}
 use Rattle.model.specs.WellFormed.{wellFormed}
 use Rattle.model.specs.Step.{refuse, written, workerAfter, step, isRequest, submit}
 use Rattle.model.specs.Run.{call}
+use Rattle.model.specs.Answers.{line-after}
 use Rattle.model.specs.declared.Answer.the-variants.{NoAnswer}
 use Rattle.model.specs.declared.Worker.{Worker}
 use Rattle.model.specs.declared.Catalogue.{Catalogue}
@@ -50,6 +51,13 @@ pub record StepTaken (c c' : Catalogue) (w : ℕ) : Type 0 where
   pub few-helps : pushesNinth c w ≡ false
   pub rows-written : c' .rows ≡ written (c .rows) (effectIn c w .write)
   pub worker : WorkerPut c c' w (workerAfter (workerIn c w) (effectIn c w))
+
+-- the lines after it: of w, and of another worker
+pub next-line : {c c' : Catalogue} {w : ℕ} → StepTaken c c' w → lineOf c' w ≡ effectIn c w .line
+next-line taken = ap (λ (k : Worker). k .line) (taken .worker .now) ∙ line-after _ _
+
+pub other-line : {c c' : Catalogue} {w : ℕ} {k : Worker} → WorkerPut c c' w k → (v : ℕ) → v ≢ w → lineOf c' v ≡ lineOf c v
+other-line put v differ = ap (λ (k : Worker). k .line) (put .others v differ)
 
 pub data Event (c : Catalogue) (x : Call) (s : Stepped) : Type 0 where
   refused : (r : Refusal) → s .verdict ≡ Refused r → s .state ≡ c → Event c x s

@@ -12,7 +12,7 @@ use Rattle.order.specs.Table.{Table, markOf, flagOf, rightOf}
 use Rattle.order.specs.StructureFacts.{above-not-head}
 use Rattle.order.specs.PlainMap.{operation}
 use Rattle.order.specs.Lawful.{Removal, goes-on, claims, ends, noRowRemoved, removedRow}
-use Rattle.order.specs.Events.{StepTaken}
+use Rattle.order.specs.Events.{StepTaken, next-line}
 use Rattle.order.specs.SoundKept.{step-lawful}
 use Rattle.order.specs.Asking.{Agrees}
 use Rattle.order.specs.Demand.{stateAt, Accepts, Request, Finished, Removing}
@@ -27,10 +27,8 @@ use Rattle.order.specs.MapChanges.{Change, adds, removes, change-unfinis
 use Rattle.kept.specs.Conditions.{clash, bool-cases, contradiction}
 use Rattle.kept.specs.Ways.{effectIn, lineOf}
 use Rattle.model.specs.State.{rowAt, idle}
-use Rattle.model.specs.Answers.{line-after}
 use Rattle.model.specs.declared.Row.{Row}
 use Rattle.model.specs.declared.Succ.{Succ}
-use Rattle.model.specs.declared.Worker.{Worker}
 use Rattle.model.specs.declared.Catalogue.{Catalogue}
 use Rattle.model.specs.declared.Answer.{Answer}
 use Rattle.model.specs.declared.Answer.the-variants.{Full}
@@ -97,7 +95,7 @@ module _ {top : ℕ} {start : Catalogue} {calls : List Call} (ready : Ready top 
           (step-lawful top _ _ (sound-at ready at) w taken .removal)
 
       removed-then : removedAt ready (suc at) w ≡ m .row
-      removed-then = ap (λ (k : Worker). removedRow (k .line)) (taken .worker .now) ∙ ap removedRow (line-after _ _) ∙ claimed .0
+      removed-then = ap removedRow (next-line taken) ∙ claimed .0
 
       go : Course ready s w 3 (m .key) (m .element) (length calls) → RemovesMarked ready w
       go (over f a h e) = absurd (ended-not-running ready s w f (length calls) a (e .finished) h (m .unfinished))

@@ -7,12 +7,13 @@ use mathlib.Core.List.{List}
 use native.Mathlib.Omega.{arith}
 use Rattle.order.specs.Demand.{stateAt, lineAt, HasBeenLinked, IsHeld, NoRowLeft, LooksForRow, FullExactly}
 use Rattle.order.specs.Time.{Ready, sound-at, step-taken, grown-at}
+use Rattle.order.specs.Events.{next-line, StepTaken}
 use Rattle.kept.specs.Conditions.{clash, contradiction}
 use Rattle.kept.specs.Standing.{free-not-linked}
 use Rattle.kept.specs.FreeRows.{NoneFree, none-left, if-none-left}
-use Rattle.kept.specs.Ways.{effectIn, workerIn}
+use Rattle.kept.specs.Ways.{workerIn}
 use Rattle.model.specs.State.{rowAt, helpAt, idle}
-use Rattle.model.specs.Answers.{line-after, LeadsTo, goes-on, answers, finds-none, line-leads, plain}
+use Rattle.model.specs.Answers.{LeadsTo, goes-on, answers, finds-none, line-leads, plain}
 use Rattle.model.specs.Insert.{insertLine, insert-4}
 use Rattle.model.specs.Step.{lineEffect, effectOf}
 use Rattle.model.specs.declared.Row.{Row}
@@ -81,8 +82,8 @@ module _ {top : ℕ} {start : Catalogue} {calls : List Call} (ready : Ready top 
   unfolding effectOf lineEffect insertLine
   full-exactly i w accepts = (only-if, if-so)
     where
-      next-line : lineAt start calls (suc i) w ≡ effectIn (stateAt start calls i) w .line
-      next-line = ap (λ (k : Worker). k .line) (step-taken ready i w accepts .worker .now) ∙ line-after _ _
+      taken : StepTaken (stateAt start calls i) (stateAt start calls (suc i)) w
+      taken = step-taken ready i w accepts
 
       rows : List Row
       rows = stateAt start calls i .rows
@@ -96,9 +97,9 @@ module _ {top : ℕ} {start : Catalogue} {calls : List Call} (ready : Ready top 
 
       only-if : lineAt start calls (suc i) w ≡ Idle Full → LooksForRow start calls i w × NoRowLeft start calls i
       only-if is =
-          let leads = line-leads rows w (k .count) (helpAt (k .helps) (k .count - 1)) (k .line) (step-taken ready i w accepts .was-busy) in
-          let n = full-at-line-4 rows leads (sym next-line ∙ is) in
+          let leads = line-leads rows w (k .count) (helpAt (k .helps) (k .count - 1)) (k .line) (taken .was-busy) in
+          let n = full-at-line-4 rows leads (sym (next-line taken) ∙ is) in
           ((n .next, n .frame, n .at-line-4), used i (n .none-free))
 
       if-so : LooksForRow start calls i w × NoRowLeft start calls i → lineAt start calls (suc i) w ≡ Idle Full
-      if-so ((next, f, at-line-4), left) = next-line ∙ ap from-line at-line-4 ∙ line-4-full rows w f next (not-free i left)
+      if-so ((next, f, at-line-4), left) = next-line taken ∙ ap from-line at-line-4 ∙ line-4-full rows w f next (not-free i left)

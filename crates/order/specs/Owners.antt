@@ -15,13 +15,12 @@ use Rattle.order.specs.Stack.{stackIn}
 use Rattle.order.specs.Facts.{AllHold, pendingFacts, facts}
 use Rattle.order.specs.LineKnows.{running-help}
 use Rattle.order.specs.Lawful.{Removal, goes-on, claims, ends, noRowRemoved, removedInHelp, removedRow, idle-removes-none}
-use Rattle.order.specs.Events.{Event, refused, submitted, stepped, Submitted, StepTaken, each-worker}
+use Rattle.order.specs.Events.{Event, refused, submitted, stepped, Submitted, StepTaken, each-worker, next-line, other-line}
 use Rattle.order.specs.Sound.{Sound, all-fresh}
 use Rattle.order.specs.SoundKept.{step-lawful}
 use Rattle.kept.specs.Conditions.{clash}
-use Rattle.kept.specs.Ways.{effectIn, lineOf, workerIn}
+use Rattle.kept.specs.Ways.{effectIn, lineOf}
 use Rattle.model.specs.State.{rowAt, emptyCatalogue}
-use Rattle.model.specs.Answers.{line-after}
 use Rattle.model.specs.Choices.{if-both}
 use Rattle.model.specs.Step.{firstLine}
 use Rattle.model.specs.declared.Row.{Row}
@@ -134,10 +133,10 @@ module _ {top : ℕ} {c c' : Catalogue} (sound : Sound top c) (owned : Owned c) 
   -- worker w removed `before` and now removes `after`
   module _ (w : ℕ) (s : StepTaken c c' w) where
     now-removes : removedBy c' w ≡ removedRow (effectIn c w .line)
-    now-removes = ap (λ (k : Worker). removedRow (k .line)) (s .worker .now) ∙ ap removedRow (line-after (workerIn c w) (effectIn c w))
+    now-removes = ap removedRow (next-line s)
 
     still-removes : (v : ℕ) → v ≢ w → removedBy c' v ≡ removedBy c v
-    still-removes v differ = ap (λ (k : Worker). removedRow (k .line)) (s .worker .others v differ)
+    still-removes v differ = ap removedRow (other-line (s .worker) v differ)
 
     -- the owner of a flag that was there, unless it is w and has ended
     kept-owner : (p : ℕ) (R' : Table) → Move top w (tableOf c) R' → flagOf (tableOf c) p ≡ true → flagOf R' p ≡ true

@@ -11,7 +11,7 @@ use lib.Dec.{eqb}
 use Rattle.order.specs.Moves.{FlagMove}
 use Rattle.order.specs.PlainMap.{Operation, operation, search, insert, delete}
 use Rattle.order.specs.Lawful.{Removal, goes-on, claims, ends, noRowRemoved, removedRow}
-use Rattle.order.specs.Events.{StepTaken}
+use Rattle.order.specs.Events.{StepTaken, other-line, next-line}
 use Rattle.order.specs.SoundKept.{step-lawful}
 use Rattle.order.specs.Demand.{stateAt, lineAt, Accepts, Request, BusySince, Finished}
 use Rattle.order.specs.Memory.{Past, past-still, operationOf, Answered, GoesOn, NextLine, Tells}
@@ -21,7 +21,6 @@ use Rattle.order.specs.Table.{Table}
 use Rattle.kept.specs.Conditions.{clash}
 use Rattle.kept.specs.Ways.{effectIn, lineOf}
 use Rattle.model.specs.State.{if_then_else_, rowAt, workerAt, idle}
-use Rattle.model.specs.Answers.{line-after}
 use Rattle.model.specs.Effects.{callSearchFrom}
 use Rattle.model.specs.Step.{written, firstLine}
 use Rattle.model.specs.declared.Row.{Row}
@@ -166,14 +165,11 @@ module _ {top : ℕ} {start : Catalogue} {calls : List Call} (ready : Ready top 
     TableAfter = rowAt (written (RowsAt ready u) (effectNow .write))
 
     module _ (accepts : Accepts start calls u (Step w)) (taken : StepTaken (stateAt start calls u) (stateAt start calls (suc u)) w) where
-      next-line : lineAt start calls (suc u) w ≡ effectNow .line
-      next-line = ap (λ (k : Worker). k .line) (taken .worker .now) ∙ line-after _ _
-
       claim-after : (removedAt (suc u) w ≡ noRowRemoved) ⊎ Claimed s w (suc u) (removedAt (suc u) w)
-      claim-after = rw next-line (go (step-lawful top _ _ (sound-at ready u) w taken .removal) (r .claim))
+      claim-after = rw (next-line taken) (go (step-lawful top _ _ (sound-at ready u) w taken .removal) (r .claim))
         where
           now : removedAt (suc u) w ≡ removedRow (effectNow .line)
-          now = ap removedRow next-line
+          now = ap removedRow (next-line taken)
 
           go : Removal (TableAt ready u) TableAfter (removedAt u w) (removedRow (effectNow .line))
               → (removedAt u w ≡ noRowRemoved) ⊎ Claimed s w u (removedAt u w)
@@ -210,7 +206,7 @@ module _ {top : ℕ} {start : Catalogue} {calls : List Call} (ready : Ready top 
           (elim (g .removed-same) [ inl none ↦ inl none | inr same ↦ inr (ap removedRow is ∙ same) ])
 
       stepped-on : Continues s w code key element u
-      stepped-on = go (effectNow .line) next-line (step-tells (taken .was-busy) .next)
+      stepped-on = go (effectNow .line) (next-line taken) (step-tells (taken .was-busy) .next)
         where
           go : (l : Line) → lineAt start calls (suc u) w ≡ l
               → NextLine w (TableAt ready) (suc s) u TableAfter (removedAt u w) (operationOf (lineAt start calls u w)) l
@@ -235,10 +231,10 @@ module _ {top : ℕ} {start : Catalogue} {calls : List Call} (ready : Ready top 
         go (nothing-happens e) = unchanged (ap (λ (c : Catalogue). lineOf c w) e)
         go (submits v code' key' element' a taken) = elim (ℕ-discrete w v) [
           | yes e ↦ absurd (clash (ap (λ (x : ℕ). idle (lineAt start calls u x)) e ∙ taken .was-idle) still-busy)
-          | no e ↦ unchanged (ap (λ (k : Worker). k .line) (taken .worker .others w e))
+          | no e ↦ unchanged (other-line (taken .worker) w e)
         ]
         go (steps v a taken) = elim (ℕ-discrete w v) [
           | yes e ↦ stepped-on (subst (λ (x : ℕ). Accepts start calls u (Step x)) (sym e) a)
               (subst (StepTaken (stateAt start calls u) (stateAt start calls (suc u))) (sym e) taken)
-          | no e ↦ unchanged (ap (λ (k : Worker). k .line) (taken .worker .others w e))
+          | no e ↦ unchanged (other-line (taken .worker) w e)
         ]
