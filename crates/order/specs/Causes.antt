@@ -2,7 +2,7 @@
 -- of the delete that owns its flag.
 use Prim.Native.Nat.{ℕ, suc}
 use mathlib.Core.Bool.{true}
-use mathlib.Core.Path.{_≡_, refl, ap, sym, _∙_, subst}
+use mathlib.Core.Path.{_≡_, refl, ap, sym, _∙_}
 use mathlib.Core.Logic.{_≢_, _⊎_, inl, inr}
 use mathlib.Core.List.{List}
 use native.Mathlib.Omega.{arith}
@@ -16,13 +16,12 @@ use Rattle.order.specs.Owners.{Owner}
 use Rattle.order.specs.Memory.{links-none}
 use Rattle.order.specs.Demand.{stateAt, lineAt, Accepts}
 use Rattle.order.specs.Time.{Ready, Happening, nothing-happens, submits, steps, happening, owned-at, structure-at, step-move, TableAt}
-use Rattle.order.specs.Running.{removedAt, Ends, Continues, runs, ends-now, continues, step-tells}
+use Rattle.order.specs.Running.{removedAt, Continues, runs, ends-now, continues, step-tells}
 use Rattle.order.specs.OneRequest.{idle-not-busy}
 use Rattle.order.specs.Courses.{Current, current}
 use Rattle.order.specs.MapAt.{mapAt, same-rows-map, Turn, turns-nothing, turns-link, turns-mark, turn-at}
 use Rattle.model.specs.State.{rowAt, idle}
 use Rattle.model.specs.Step.{written}
-use Rattle.model.specs.declared.Row.{Row}
 use Rattle.model.specs.declared.Standing.the-variants.{Linked}
 use Rattle.model.specs.declared.Catalogue.{Catalogue}
 use Rattle.model.specs.declared.Answer.the-variants.{Added}
@@ -46,7 +45,7 @@ module _ {top : ℕ} {start : Catalogue} {calls : List Call} (ready : Ready top 
     link-cause prev new next m = go (current ready t w)
       where
         new-linked : standingOf (rowAt (written (stateAt start calls t .rows) (effectIn (stateAt start calls t) w .write))) new ≡ Linked
-        new-linked = subst (λ (rows : List Row). standingOf (rowAt rows) new ≡ Linked) (taken .rows-written) (m .new-linked)
+        new-linked = rw (taken .rows-written) at (m .new-linked)
 
         answers : (c : Current ready w t) → lineAt start calls (suc t) w ≡ Idle Added
         answers c =
@@ -59,8 +58,7 @@ module _ {top : ℕ} {start : Catalogue} {calls : List Call} (ready : Ready top 
         ended-so c (runs r same) = absurd (idle-not-busy (answers c) (r .busy (suc t) (r .since) (omega arith)))
         ended-so c (ends-now a e) =
             let same : a ≡ Added = cc (answers c, e .finished .answered) in
-            changed-by (c .request) (adds w (c .code) (c .key) (c .element)
-            (subst (Ends ready (c .request) w (c .code) (c .key) (c .element) t) same e))
+            changed-by (c .request) (adds w (c .code) (c .key) (c .element) (rw same at e))
 
         go : (idle (lineAt start calls t w) ≡ true) ⊎ Current ready w t → Cause t
         go (inl h) = absurd (clash h (taken .was-busy))

@@ -1,7 +1,7 @@
 -- The chain: the rows reached from the head by right. Every regular row is on it.
 use Prim.Native.Nat.{ℕ, zero, suc, _+_, _≤_, _<_}
 use mathlib.Core.Bool.{true, false}
-use mathlib.Core.Path.{_≡_, subst}
+use mathlib.Core.Path.{_≡_}
 use mathlib.Core.Logic.{_≢_, _⊎_, inl, inr}
 use native.Mathlib.Omega.{arith}
 use Rattle.order.specs.Table.{Table, rightOf, markOf, rankOf, IsLinked, Regular}
@@ -18,13 +18,13 @@ module _ {top : ℕ} {R : Table} (sound : Structure top R) where
   -- From a regular row x on the chain up to the regular row z, over the marked rows between: `steps` bounds how many ranks are left.
   climb : (z : ℕ) → Regular R z → (steps x : ℕ) → OnChain R x → Regular R x → rankOf top R x ≤ rankOf top R z
       → rankOf top R z ≤ rankOf top R x + steps → OnChain R z
-  climb z lz zero x c l h g = subst (OnChain R) (sound .same x z l lz (omega arith)) c
+  climb z lz zero x c l h g = rw (sound .same x z l lz (omega arith)) at c
   climb z lz (suc steps) x c l h g = go (compared (rankOf top R x) (rankOf top R z)) (climb z lz steps)
     where
       go : Compared (rankOf top R x) (rankOf top R z)
           → ((y : ℕ) → OnChain R y → Regular R y → rankOf top R y ≤ rankOf top R z → rankOf top R z ≤ rankOf top R y + steps → OnChain R z)
           → OnChain R z
-      go (equal e) further = subst (OnChain R) (sound .same x z l lz e) c
+      go (equal e) further = rw (sound .same x z l lz e) at c
       go (more e) further = absurd (omega arith)
       go (less e) further = next (bool-cases (markOf R (rightOf R x)))
         where

@@ -57,7 +57,7 @@ module _ {top : ℕ} {start : Catalogue} {calls : List Call} (ready : Ready top 
       go (under-way q) = absurd (ended-not-running s w f (suc f) a x (omega arith) (q .busy))
       go (over g b h e) =
           let same = same-finish s w g f b a (e .finished) x in
-          subst (λ (i : ℕ). Ends ready s w code key element i a) (same .0) (subst (Ends ready s w code key element g) (same .1) e)
+          rw (same .0) at (rw (same .1) at e)
 
   -- a running request was running before
   pub ran : (s w code key element j u : ℕ) → Running ready s w code key element u → s < j → j ≤ u → Running ready s w code key element j
@@ -100,7 +100,7 @@ module _ {top : ℕ} {start : Catalogue} {calls : List Call} (ready : Ready top 
           key = key;
           element = element;
           running =
-              begins ready u w code key element (subst (λ (x : ℕ). Request start calls u x code key element) (sym e) a);
+              begins ready u w code key element (rw e a);
         })
         | no e ↦ kept (other-line (taken .worker) w e) h
       ]
@@ -142,5 +142,5 @@ module _ {top : ℕ} {start : Catalogue} {calls : List Call} (ready : Ready top 
       ]
 
       go : Dec (j ≡ suc u) → (j ≤ u → removedAt ready u w ≡ y) → removedAt ready (suc u) w ≡ y
-      go (yes e) before = subst (λ (i : ℕ). removedAt ready i w ≡ y) e is
+      go (yes e) before = rw e at is
       go (no e) before = step (omega arith) (before (omega arith))

@@ -100,7 +100,7 @@ module _ {top : ℕ} {c : Catalogue} (r : Reached top c) where
   live-below : (h : Pending) (p : ℕ) → flagOf (tableOf c) p ≡ true → p ≡ h .del → Helping (tableOf c) (h .prev) (h .del)
       → LiveFlag (tableOf c) (h .prev) p
   live-below h p flagged same helping =
-      live-flag (subst (Helpable (tableOf c) (h .prev)) (sym same) (helping .help)) (r .sound .structure .flag-regular p flagged .unmarked)
+      live-flag (rw same (helping .help)) (r .sound .structure .flag-regular p flagged .unmarked)
 
   -- the flag at p, and under it the pending helps: each has an owner
   owners : (hs : List Pending) (p : ℕ) → flagOf (tableOf c) p ≡ true → Chained (tableOf c) hs p

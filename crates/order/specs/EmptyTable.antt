@@ -71,8 +71,7 @@ module _ (top : ℕ) (positive : 1 ≤ top) where
       → rankOf top emptyTable (rightOf emptyTable x) ≤ rankOf top emptyTable z
   empty-gap x z (is-head e) (is-head f) h = absurd (omega (arith, ap (rankOf top emptyTable) e, ap (rankOf top emptyTable) f))
   empty-gap x z (is-head e) (is-tail f) h =
-      subst (λ y. rankOf top emptyTable (rightOf emptyTable y) ≤ rankOf top emptyTable z) (sym e)
-      (omega (arith, ap (rankOf top emptyTable) f))
+      rw e (omega (arith, ap (rankOf top emptyTable) f))
   empty-gap x z (is-tail e) (is-head f) h =
       absurd (omega (arith, ap (rankOf top emptyTable) e, ap (rankOf top emptyTable) f, at-head, at-tail))
   empty-gap x z (is-tail e) (is-tail f) h = absurd (omega (arith, ap (rankOf top emptyTable) e, ap (rankOf top emptyTable) f))
@@ -97,8 +96,7 @@ module _ (top : ℕ) (positive : 1 ≤ top) where
     back-below = λ x l n. elim (empty-ends x l) [
       | is-head e ↦ absurd (n e)
       | is-tail e ↦
-          subst (λ y. rankOf top emptyTable (backOf emptyTable y) < rankOf top emptyTable y) (sym e)
-          (omega (arith, at-head, at-tail))
+          rw e (omega (arith, at-head, at-tail))
     ];
     back-of-marked = λ x h k. absurd (clash h (empty-unflagged x));
   }

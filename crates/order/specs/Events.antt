@@ -2,7 +2,7 @@
 -- these three cases.
 use Prim.Native.Nat.{ℕ, _<_}
 use mathlib.Core.Bool.{true, false}
-use mathlib.Core.Path.{_≡_, refl, sym, subst, ap, _∙_}
+use mathlib.Core.Path.{_≡_, refl, ap, _∙_}
 use mathlib.Core.Logic.{_≢_}
 use native.Mathlib.Omega.{arith}
 use native.Mathlib.Decide.{ℕ-discrete}
@@ -34,8 +34,8 @@ pub record WorkerPut (c c' : Catalogue) (w : ℕ) (k : Worker) : Type 0 where
 pub each-worker : {c c' : Catalogue} {w : ℕ} {k : Worker} → WorkerPut c c' w k → (P : ℕ → Worker → Type 0) → P w k
     → ((v : ℕ) → v ≢ w → P v (workerIn c v)) → (v : ℕ) → P v (workerIn c' v)
 each-worker {c' = c'} {w = w} put P mine theirs v = elim (ℕ-discrete v w) [
-  | yes e ↦ subst (λ (u : ℕ). P u (workerIn c' u)) (sym e) (subst (P w) (sym (put .now)) mine)
-  | no e ↦ subst (P v) (sym (put .others v e)) (theirs v e)
+  | yes e ↦ rw e (rw (put .now) mine)
+  | no e ↦ rw (put .others v e) (theirs v e)
 ]
 
 pub record Submitted (c c' : Catalogue) (w code key element : ℕ) : Type 0 where

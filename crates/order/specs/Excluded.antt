@@ -2,7 +2,6 @@
 -- answered Added is in the map at the end if its key is never deleted; no request that comes after it is answered Absent by itself; and
 -- Full is not given while a row is free that was never linked.
 use Prim.Native.Nat.{ℕ, suc, _≤_, _<_}
-use mathlib.Core.Bool.{false}
 use mathlib.Core.Path.{_≡_, refl, ap, sym, _∙_, subst}
 use mathlib.Core.Logic.{_≢_, _⊎_, inl, inr}
 use mathlib.Core.List.{List, _∷_, List·Memᴰ, List·Memᴰ·head, List·Memᴰ·tail, List·Memᴰ·not-nil, List·Memᴰ·cases-cons}
@@ -15,7 +14,7 @@ use Rattle.order.specs.Asking.{added-holds}
 use Rattle.order.specs.Demand.{stateAt, lineAt, Accepts, Request, Finished, Removing, Placed, InOrder, no-entry, one-entry, next-entry, Entry, is-finished, is-removing, Replays, at-end, answers, is-full, removes, Ordered, FullExactly}
 use Rattle.order.specs.OneRequest.{same-request, same-finish, idle-not-busy}
 use Rattle.kept.specs.Conditions.{contradiction}
-use Rattle.model.specs.State.{rowAt, idle}
+use Rattle.model.specs.State.{rowAt}
 use Rattle.model.specs.declared.Catalogue.{Catalogue}
 use Rattle.model.specs.declared.Answer.{Answer}
 use Rattle.model.specs.declared.Answer.the-variants.{Absent, Added, Full}
@@ -96,9 +95,9 @@ module _ (start : Catalogue) (calls : List Call) where
         → (operation code key element ≡ insert k e) × (g ≡ f) × (a ≡ Added)
     unfolding operation
     add-finish p v code key element g a same r x =
-        let q = same-request s w 2 k e v code key element request (subst (λ (i : ℕ). Request start calls i v code key element) same r) in
+        let q = same-request s w 2 k e v code key element request (rw same at r) in
         let here = subst (λ (i : ℕ). Finished start calls i v g a) same x in
-        let finish = same-finish s w g f a Added (subst (λ (u : ℕ). Finished start calls s u g a) (q .worker) here) finished in
+        let finish = same-finish s w g f a Added (rw (q .worker) at here) finished in
         (cc (q .code-same, q .key-same, q .element-same), finish .0, finish .1)
 
     -- the map is asked to insert, and answers Added
@@ -158,7 +157,7 @@ module _ (start : Catalogue) (calls : List Call) where
           → (a ≡ Absent) × (operation code' key' element' ≡ operation code key element)
       same-absent u code' key' element' g a r x =
           let s = same-request q v code key element u code' key' element' asked r in (
-            same-finish q v g h a Absent (subst (λ (i : ℕ). Finished start calls q i g a) (s .worker) x) absent .1,
+            same-finish q v g h a Absent (rw (s .worker) at x) absent .1,
             cc (s .code-same, s .key-same, s .element-same),
           )
 
@@ -168,9 +167,7 @@ module _ (start : Catalogue) (calls : List Call) where
       until {m} (answers {p = p} u code' key' element' g a r x some-answer ans rest) is asks only =
           first-or-later asks
           (λ same.
-          let (absent-too, same-operation) = same-absent u code' key' element' g a
-          (subst (λ (i : ℕ). Request start calls i u code' key' element') same r)
-          (subst (λ (i : ℕ). Finished start calls i u g a) same x) in
+          let (absent-too, same-operation) = same-absent u code' key' element' g a (rw same at r) (rw same at x) in
           not-absent m k e is (operation code' key' element') (of-key ∙ ap keyOf (sym same-operation)) (ans ∙ absent-too))
           (λ other h.
           let kept = asked-keeps m k e is (operation code' key' element')
@@ -179,19 +176,15 @@ module _ (start : Catalogue) (calls : List Call) where
       until (is-full {p = p} u code' key' element' g r x rest) is asks only =
           first-or-later asks
           (λ same.
-          let (full-absent, _) = same-absent u code' key' element' g Full
-          (subst (λ (i : ℕ). Request start calls i u code' key' element') same r)
-          (subst (λ (i : ℕ). Finished start calls i u g Full) same x) in
+          let (full-absent, _) = same-absent u code' key' element' g Full (rw same at r) (rw same at x) in
           contradiction (cc))
           (λ other h. until rest is h (λ y i. only y (List·Memᴰ·tail i)))
       until {m} (removes {p = p} u r x ans rest) is asks only =
           first-or-later asks
           (λ same.
-          let worker = same-request q v code key element u 3 (r .key) (r .element) asked
-          (subst (λ (i : ℕ). Request start calls i u 3 (r .key) (r .element)) same (r .request)) .worker in
+          let worker = same-request q v code key element u 3 (r .key) (r .element) asked (rw same at (r .request)) .worker in
           idle-not-busy (absent .answered)
-          (subst (λ (i : ℕ). idle (lineAt start calls (suc h) i) ≡ false) worker
-          (r .unfinished (suc h) (omega (arith, same, absent .later)) (absent .step .inside))))
+          (rw worker at (r .unfinished (suc h) (omega (arith, same, absent .later)) (absent .step .inside))))
           (λ other j.
           let kept = asked-keeps m k e is (operation 3 (r .key) (r .element))
           (λ d. other (only p (List·Memᴰ·head refl) u 3 (r .key) (r .element) (r .request) d)) in

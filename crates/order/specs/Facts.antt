@@ -2,7 +2,7 @@
 -- of others is proved once for each fact (StableFacts), never for a pair of lines.
 use Prim.Native.Nat.{ℕ, suc, _≤_, _<_}
 use mathlib.Core.Bool.{true, false}
-use mathlib.Core.Path.{_≡_, sym, subst}
+use mathlib.Core.Path.{_≡_}
 use mathlib.Core.List.{List, [], _∷_}
 use Rattle.order.specs.Table.{Table, rightOf, markOf, flagOf, backOf, standingOf, rankOf, IsLinked}
 use Rattle.order.specs.Structure.{Helpable}
@@ -173,4 +173,4 @@ facts (Help l f) hs =
 pub called-alone : (top w : ℕ) (R : Table) (key element : ℕ) (caller : HelpCaller) (hs : List Pending) (prev del : ℕ) → hs ≡ []
     → AllHold top w R (helpCallerFacts key element del caller) → AllHold top w R (pendingFacts key element caller hs prev del)
 called-alone top w R key element caller hs prev del alone known =
-    subst (λ (s : List Pending). AllHold top w R (pendingFacts key element caller s prev del)) (sym alone) known
+    rw alone known

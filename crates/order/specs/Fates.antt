@@ -2,7 +2,7 @@
 -- being neither finished nor a removal whose row is marked.
 use Prim.Native.Nat.{ℕ, suc, _≤_, _<_}
 use mathlib.Core.Bool.{true, false}
-use mathlib.Core.Path.{_≡_, refl, ap, sym, _∙_, subst}
+use mathlib.Core.Path.{_≡_, refl, ap, sym, _∙_}
 use mathlib.Core.Logic.{_≢_, _⊎_, inl, inr}
 use mathlib.Core.List.{List}
 use native.Mathlib.Omega.{arith}
@@ -26,8 +26,7 @@ use Rattle.order.specs.Removals.{MarkedAt, removal-marked}
 use Rattle.order.specs.MapChanges.{Change, adds, removes, change-unfinished, RemovesMarked}
 use Rattle.kept.specs.Conditions.{clash, bool-cases, contradiction}
 use Rattle.kept.specs.Ways.{effectIn, lineOf}
-use Rattle.model.specs.State.{rowAt, idle}
-use Rattle.model.specs.declared.Row.{Row}
+use Rattle.model.specs.State.{idle}
 use Rattle.model.specs.declared.Succ.{Succ}
 use Rattle.model.specs.declared.Catalogue.{Catalogue}
 use Rattle.model.specs.declared.Answer.{Answer}
@@ -90,8 +89,7 @@ module _ {top : ℕ} {start : Catalogue} {calls : List Call} (ready : Ready top 
       claimed : (removedRow (effectIn (stateAt start calls at) w .line) ≡ m .row) × (m .row ≢ noRowRemoved)
       claimed = flag-claims at w (m .flagged .prev) (m .row) _ _ (ap (λ (x : Succ). x .flag) (m .flagged .before))
           (ap (λ (x : Succ). x .right) (m .flagged .before))
-          (subst (λ (rows : List Row). flagOf (rowAt rows) (m .flagged .prev) ≡ true) (taken .rows-written)
-          (ap (λ (x : Succ). x .flag) (m .flagged .after)))
+          (rw (taken .rows-written) at (ap (λ (x : Succ). x .flag) (m .flagged .after)))
           (step-lawful top _ _ (sound-at ready at) w taken .removal)
 
       removed-then : removedAt ready (suc at) w ≡ m .row
@@ -148,7 +146,7 @@ module _ {top : ℕ} {start : Catalogue} {calls : List Call} (ready : Ready top 
         go : Kind ready s w f (operation code key element) a → Fate s
         go (reads-only h r) = reads-fate f a e (r .moment) (r .later) (r .until) (r .worker) (r .step) (inr (h, r .agrees))
         go (is-full h) = reads-fate f a e f (e .finished .later) (omega arith) w (e .finished .step) (inl h)
-        go (adds-kind h agrees) = changes-at f (adds w code key element (subst (Ends ready s w code key element f) h e))
+        go (adds-kind h agrees) = changes-at f (adds w code key element (rw h at e))
         go (removes-kind x h r) =
             removal-fate f _ (removal-marked ready s w code key element f _ (e .running) refl (r .some-row) (r .marked)) (r .some-row)
 
@@ -157,11 +155,11 @@ module _ {top : ℕ} {start : Catalogue} {calls : List Call} (ready : Ready top 
     waiting r none = no-place (record {
       not-finished = λ w' code' key' element' f a q x.
           ended-not-running ready s w f (length calls) a
-          (subst (λ (v : ℕ). Finished start calls s v f a) (same-request s w code key element w' code' key' element' request q .worker) x)
+          (rw (same-request s w code key element w' code' key' element' request q .worker) at x)
           (x .step .inside) (r .busy);
       not-removing = λ w' m.
           let same = same-request s w code key element w' 3 (m .key) (m .element) request (m .request) in
-          none (subst (RemovesMarked ready) (same .worker) (removes-now s w' m));
+          none (rw (same .worker) at (removes-now s w' m));
       not-changing = λ T c. none (change-unfinished ready s T w code key element c r);
     })
 

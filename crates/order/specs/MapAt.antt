@@ -88,7 +88,7 @@ module _ {top : ℕ} {start : Catalogue} {calls : List Call} (ready : Ready top 
       → Turn top w (TableAt ready i) (TableAt ready (suc i)) (mapAt i) (mapAt (suc i))
   turn-at i w m =
       let is = is-the-map (suc i) (mapAfterMove m (mapAt i)) (map-after-move (structure-at ready i) m (is-map-at i)) in
-      subst (Turn top w _ _ (mapAt i)) is (turn m (mapAt i))
+      rw is at (turn m (mapAt i))
 
   -- the step that links a row of key k and element e
   pub link-agrees : (i w k e : ℕ) → LinksRow w (TableAt ready i) (TableAt ready (suc i)) k e

@@ -2,7 +2,7 @@
 -- Such a request changes the map once, and two never change it at one step.
 use Prim.Native.Nat.{ℕ, suc, _≤_, _<_}
 use mathlib.Core.Bool.{true, false}
-use mathlib.Core.Path.{_≡_, refl, ap, sym, _∙_, subst}
+use mathlib.Core.Path.{_≡_, refl, ap, sym, _∙_}
 use mathlib.Core.Logic.{_≢_}
 use mathlib.Core.List.{List}
 use native.Mathlib.Omega.{arith}
@@ -48,8 +48,7 @@ module _ {top : ℕ} {start : Catalogue} {calls : List Call} (ready : Ready top 
       → P w code key element
   by-request P {s} {w} {code} {key} {element} {w'} {code'} {key'} {element'} a b p =
       let e = same-request s w code key element w' code' key' element' a b in
-      subst (λ (x : ℕ). P x code key element) (e .worker) (subst (λ (x : ℕ). P w' x key element) (e .code-same)
-      (subst (λ (x : ℕ). P w' code' x element) (e .key-same) (subst (P w' code' key') (e .element-same) p)))
+      rw (e .worker, e .code-same, e .key-same, e .element-same) at p
 
   ends-too : {s w code key element w' code' key' element' f : ℕ} {a : Answer} → Request start calls s w code key element
       → Ends ready s w' code' key' element' f a → Ends ready s w code key element f a
@@ -109,7 +108,7 @@ module _ {top : ℕ} {start : Catalogue} {calls : List Call} (ready : Ready top 
             let answer = ends-removed s w code key element T f y a r is some e in
             let linked = removes-save ready s w code key element T y r is some .save .linked in
             let g = grown-at ready T f y (answer .0) linked in
-            finishes f (answer .0) (subst (Ends ready s w code key element f) (answer .1 ∙ ap Removed (g .element)) e)
+            finishes f (answer .0) (rw (answer .1 ∙ ap Removed (g .element)) at e)
 
     pub removal-agrees : Agrees (mapAt ready T) (operation code key element) (Removed (TableAt ready T y .element)) (mapAt ready (suc T))
     removal-agrees =
@@ -183,7 +182,7 @@ module _ {top : ℕ} {start : Catalogue} {calls : List Call} (ready : Ready top 
   change-alone s s' T (adds w code key element e) (adds w' code' key' element' e') =
       let same = same-stepper T w' w (e' .finished .step) (e .finished .step) in
       alone ready s w code key element s' code' key' element' T (e .running)
-      (subst (λ (v : ℕ). Running ready s' v code' key' element' T) same (e' .running))
+      (rw same at (e' .running))
   change-alone s s' T (adds w code key element e) (removes w' code' key' element' y r is some unmarked marked) =
       link-no-mark s w code key element T y e unmarked marked
   change-alone s s' T (removes w' code' key' element' y r is some unmarked marked) (adds w code key element e) =
@@ -191,7 +190,7 @@ module _ {top : ℕ} {start : Catalogue} {calls : List Call} (ready : Ready top 
   change-alone s s' T (removes w code key element y r is some unmarked marked)
       (removes w' code' key' element' y' r' is' some' unmarked' marked') =
       let same = owned-at ready T .only w' w y some (is' ∙ sym one-row) is in
-      alone ready s w code key element s' code' key' element' T r (subst (λ (v : ℕ). Running ready s' v code' key' element' T) same r')
+      alone ready s w code key element s' code' key' element' T r (rw same at r')
     where
       one-row : y ≡ y'
       one-row = elim (ℕ-discrete y y') [

@@ -2,7 +2,7 @@
 -- plain map gives that answer. Between the table at which the answer was right and the next accepted step no row changes.
 use Prim.Native.Nat.{ℕ, zero, suc, _+_, _-_, _≤_, _<_}
 use mathlib.Core.Bool.{Bool, true, false}
-use mathlib.Core.Path.{_≡_, refl, ap, sym, _∙_, subst}
+use mathlib.Core.Path.{_≡_, refl, ap, sym, _∙_}
 use mathlib.Core.List.{List}
 use mathlib.Core.Option.{none, some}
 use native.Mathlib.Omega.{arith}
@@ -83,7 +83,7 @@ module _ {top : ℕ} {start : Catalogue} {calls : List Call} (ready : Ready top 
         until = next .until;
         worker = next .worker;
         step = next .step;
-        agrees = subst (λ (m : PlainMap). Agrees m o a m) (same-rows-map ready T (next .moment) (sym (next .rows-same))) agrees;
+        agrees = rw (same-rows-map ready T (next .moment) (sym (next .rows-same))) at agrees;
       }
 
   module _ (s f w : ℕ) (accepts : Accepts start calls f (Step w)) where

@@ -20,7 +20,7 @@ use Rattle.kept.specs.Conditions.{clash}
 use Rattle.kept.specs.Standing.{held-not-linked}
 
 pub move-keeps-structure : {top w : ℕ} {R R' : Table} → Structure top R → Move top w R R' → Structure top R'
-move-keeps-structure {top = top} sound (nothing e) = subst (Structure top) e sound
+move-keeps-structure {top = top} sound (nothing e) = rw e at sound
 move-keeps-structure sound (links move) = link-keeps-structure sound move
 move-keeps-structure sound (marks move) = mark-keeps-structure sound move
 move-keeps-structure sound (unlinks move) = unlink-keeps-structure sound move

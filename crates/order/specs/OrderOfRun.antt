@@ -2,7 +2,7 @@
 -- exactly the finished requests and the unfinished removals whose row is marked, each once, in the order of the moments.
 use Prim.Native.Nat.{ℕ, zero, suc, _+_, _≤_, _<_}
 use mathlib.Core.Bool.{Bool, true, false}
-use mathlib.Core.Path.{_≡_, refl, sym, _∙_, subst}
+use mathlib.Core.Path.{_≡_, refl, sym, _∙_}
 use mathlib.Core.Logic.{_⊎_, inl, inr}
 use mathlib.Core.List.{List, [], _++_, List·Memᴰ, List·Memᴰ·not-nil, List·Memᴰ·append-cases, Memᴰ·append-left, Memᴰ·append-right}
 use native.Mathlib.Omega.{arith}
@@ -44,7 +44,7 @@ module _ {top : ℕ} {start : Catalogue} {calls : List Call} (ready : Ready top 
   reads-now t s h = go (fate ready s) h
     where
       go : (x : Fate ready s) → readsIn t x ≡ true → ReadsAt ready s t
-      go (reads-at T r) h = subst (ReadsAt ready s) (eqb-true T t h) r
+      go (reads-at T r) h = rw (eqb-true T t h) at r
       go (changes-at T c) h = absurd (clash h refl)
       go (no-place n) h = absurd (clash h refl)
 
@@ -54,7 +54,7 @@ module _ {top : ℕ} {start : Catalogue} {calls : List Call} (ready : Ready top 
     where
       go : (x : Fate ready s) → changesIn t x ≡ true → Change ready s t
       go (reads-at T r) h = absurd (clash h refl)
-      go (changes-at T c) h = subst (Change ready s) (eqb-true T t h) c
+      go (changes-at T c) h = rw (eqb-true T t h) at c
       go (no-place n) h = absurd (clash h refl)
 
   -- a request that changes the map at t is known to
@@ -177,7 +177,7 @@ module _ {top : ℕ} {start : Catalogue} {calls : List Call} (ready : Ready top 
 
       go : Dec (T ≡ t) → BelongsTo T s → (suc t ≤ T → List·Memᴰ (record { request = s; moment = T }) (orderFrom n (suc t)))
           → List·Memᴰ (record { request = s; moment = T }) (orderFrom (suc n) t)
-      go (yes e) b rest = rw e (now (subst (λ (i : ℕ). BelongsTo i s) e b))
+      go (yes e) b rest = rw e (now (rw e at b))
       go (no e) b rest = Memᴰ·append-right (readers t) (Memᴰ·append-right (changers t) (rest (omega arith)))
 
   pub order-sorted : (n t : ℕ) → InOrder start calls (orderFrom n t)

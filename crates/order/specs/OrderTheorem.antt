@@ -62,7 +62,7 @@ module _ {top : ℕ} (rows : List Row) (small : length rows ≤ 128) (sound : St
       go none e h q = contradiction (cc)
       go (some x) e h q =
           let same : x ≡ element = cc in
-          subst (Has (rowAt rows) key) same h
+          rw same at h
 
   -- and a map that does is the map of the table
   pub chain-held-is-map : (m : PlainMap) → HoldsTheChain m rows → IsMapOf (rowAt rows) m
@@ -116,7 +116,7 @@ pub demand-from : {top : ℕ} (start : Catalogue) (calls : List Call) (before : 
 unfolding stateAt run
 demand-from start calls before ready holds = record {
   after = mapAt ready (length calls);
-  ordered = subst (λ (m : PlainMap). Ordered start calls m (mapAt ready (length calls))) (sym first) (run-ordered ready);
+  ordered = rw first (run-ordered ready);
   ends = subst (λ (c : Catalogue). HoldsTheChain (mapAt ready (length calls)) (c .rows)) (state-end start calls)
       (map-holds-chain (RowsAt ready (length calls)) (omega (arith, sound-at ready (length calls) .sizes .rows))
       (structure-at ready (length calls)) (mapAt ready (length calls)) (is-map-at ready (length calls)));
@@ -159,7 +159,7 @@ demand-at-rest start calls before sound at-rest unflagged fits holds =
 pub ready-again : {top : ℕ} {start : Catalogue} {calls : List Call} (more : List Call) → Ready top start calls → AllIdle (run start calls)
     → KeysFit top more → Ready top (run start calls) more
 ready-again {top} {start} {calls} more ready at-rest fits = record {
-  sound = subst (Sound top) (state-end start calls) (sound-at ready (length calls));
+  sound = rw (state-end start calls) at (sound-at ready (length calls));
   owned = subst Owned (state-end start calls) (owned-at ready (length calls));
   at-rest = at-rest;
   fits = fits;

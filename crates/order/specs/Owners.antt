@@ -63,7 +63,7 @@ helpedFrom (Help l f) hs = outermostPrev hs (f .prev)
 module _ (top w : ℕ) (R : Table) where
   outermost-help : (key element target : ℕ) (hs : List Pending) (prev del : ℕ) → Helpable R prev del
       → AllHold top w R (pendingFacts key element (Delete6 target true) hs prev del) → Helpable R (outermostPrev hs prev) target
-  outermost-help key element target [] prev del help (same, _) = subst (Helpable R prev) same help
+  outermost-help key element target [] prev del help (same, _) = rw same at help
   outermost-help key element target (h ∷ hs) prev del help (_, (helping, rest)) =
       outermost-help key element target hs (h .prev) (h .del) (helping .help) rest
 
@@ -117,7 +117,7 @@ first-removes-none code key element =
 same-owners : {c c' : Catalogue} → c' .rows ≡ c .rows → ((v : ℕ) → removedBy c' v ≡ removedBy c v) → Owned c → Owned c'
 same-owners {c} {c'} rows same owned = record {
   owner = λ p h.
-      let o = owned .owner p (subst (λ (rows : List Row). flagOf (rowAt rows) p ≡ true) rows h) in
+      let o = owned .owner p (rw rows at h) in
       record { worker = o .worker; removes = same (o .worker) ∙ o .removes ∙ ap (λ (rows : List Row). rightOf (rowAt rows) p) (sym rows) };
   only = λ u v row some mine theirs. owned .only u v row some (sym (same u) ∙ mine) (sym (same v) ∙ theirs);
 }
@@ -168,10 +168,8 @@ module _ {top : ℕ} {c c' : Catalogue} (sound : Sound top c) (owned : Owned c) 
         differ (owned .only v w row some theirs (sym same ∙ mine))
     not-shared R' (ends none no-new gone) v row differ some mine theirs = some (sym mine ∙ none)
     not-shared R' (claims claim none) v row differ some mine theirs =
-        claim-free (sound .structure) claim (subst (Helpable (tableOf c) (helpedFrom (lineOf c v) (stackIn c v)))
-        (theirs ∙ sym mine)
-        (removed-helpable top v (tableOf c) (lineOf c v) (stackIn c v) (sound .known v)
-        (λ e. some (sym theirs ∙ e))))
+        let help = removed-helpable top v (tableOf c) (lineOf c v) (stackIn c v) (sound .known v) (λ e. some (sym theirs ∙ e)) in
+        claim-free (sound .structure) claim (rw (theirs ∙ sym mine) at help)
 
     step-keeps-owned : Owned c'
     step-keeps-owned = record {
@@ -191,7 +189,7 @@ module _ {top : ℕ} {c c' : Catalogue} (sound : Sound top c) (owned : Owned c) 
             owned .only u v row some (sym (still-removes u a) ∙ mine) (sym (still-removes v b) ∙ theirs)
 
 pub event-keeps-owned : {top : ℕ} {c : Catalogue} {x : Call} {s : Stepped} → Sound top c → Owned c → Event c x s → Owned (s .state)
-event-keeps-owned sound owned (refused r v same) = subst Owned (sym same) owned
+event-keeps-owned sound owned (refused r v same) = rw same owned
 event-keeps-owned sound owned (submitted w code key element small is v s') = submit-keeps-owned sound owned w code key element s'
 event-keeps-owned sound owned (stepped w small is v s') = step-keeps-owned sound owned w s'
 

@@ -1,6 +1,6 @@
 -- Lists of requests with their moments: all of one step, lists put after one another, each request once, in the order of the moments.
 use Prim.Native.Nat.{ℕ, zero, suc, _≤_, _<_}
-use mathlib.Core.Path.{_≡_, refl, ap, sym, subst}
+use mathlib.Core.Path.{_≡_, refl, ap, sym}
 use mathlib.Core.Logic.{_≢_, _⊎_, inl, inr}
 use mathlib.Core.List.{List, [], _∷_, _++_, List·Memᴰ, List·Memᴰ·head, List·Memᴰ·tail, List·Memᴰ·not-nil, List·Memᴰ·cases-cons, List·Memᴰ·append-cases}
 use native.Mathlib.Omega.{arith}
@@ -75,7 +75,7 @@ module _ (start : Catalogue) (calls : List Call) where
   unfolding placedAt
   placed-once t zs no-number = nobody
   placed-once t zs (one-more {x = x} {xs = xs} new d) =
-      also (λ q m e. new (subst (λ (s : ℕ). Among s xs) e (of-placed t xs q m .1))) (placed-once t xs d)
+      also (λ q m e. new (rw e at (of-placed t xs q m .1))) (placed-once t xs d)
 
   -- the requests of one step, before others that are no earlier
   pub placed-in-order : (t : ℕ) (xs : List ℕ) (ps : List (Placed start calls)) → ((q : Placed start calls) → List·Memᴰ q ps → t ≤ q .moment)

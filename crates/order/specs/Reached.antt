@@ -85,7 +85,7 @@ flag-owner {top} {c} r p flagged = record {
     some e = not-head (sym (r .owned .owner p flagged .removes) ∙ e)
 
     help : Helpable (tableOf c) (helpedFrom (lineOf c u) (stackIn c u)) (rightOf (tableOf c) p)
-    help = subst (Helpable (tableOf c) _) (r .owned .owner p flagged .removes)
+    help = rw (r .owned .owner p flagged .removes) at
         (removed-helpable top u (tableOf c) (lineOf c u) (stackIn c u) (r .sound .known u) some)
 
 pub reached-flag-owner : (calls : List Call) (p : ℕ) → flagOf (tableOf (run emptyCatalogue calls)) p ≡ true
@@ -104,8 +104,7 @@ module _ {top : ℕ} {c : Catalogue} (sound : Sound top c) where
   pub named-for-insert : (w x : ℕ) → Names c w x → HoldingFor w (tableOf c) x (operationOf (lineOf c w))
   named-for-insert w x n =
       let some : heldRow (lineOf c w) ≢ noRowHeld = λ e. omega (arith, n .is-row, n .names, e) in
-      subst (λ (y : ℕ). HoldingFor w (tableOf c) y (operationOf (lineOf c w))) (n .names)
-      (named-is-held top w (tableOf c) (lineOf c w) (stackIn c w) (sound .known w) some)
+      rw (n .names) at (named-is-held top w (tableOf c) (lineOf c w) (stackIn c w) (sound .known w) some)
 
   pub held-exactly : (w x : ℕ) → (standingOf (tableOf c) x ≡ Held w) ↔ Names c w x
   held-exactly w x = (only-if, λ n. named-for-insert w x n .holding .held)

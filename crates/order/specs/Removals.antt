@@ -2,7 +2,7 @@
 -- afterwards or is a removal that is still unfinished at the end.
 use Prim.Native.Nat.{ℕ, suc, _≤_, _<_}
 use mathlib.Core.Bool.{Bool, true, false}
-use mathlib.Core.Path.{_≡_, refl, ap, sym, _∙_, subst}
+use mathlib.Core.Path.{_≡_, refl, ap, sym, _∙_}
 use mathlib.Core.Logic.{_≢_, _⊎_, inl, inr}
 use mathlib.Core.List.{List}
 use native.Mathlib.Omega.{arith}
@@ -151,7 +151,7 @@ module _ {top : ℕ} {start : Catalogue} {calls : List Call} (ready : Ready top 
     where
       go : (removedAt ready u w ≡ noRowRemoved) ⊎ Claimed ready s w u (removedAt ready u w) → MarkedAt s w code key element u y
       go (inl none) = absurd (some (sym is ∙ none))
-      go (inr c) = claim-marked s w code key element u y r (subst (Claimed ready s w u) is c) marked
+      go (inr c) = claim-marked s w code key element u y r (rw is at c) marked
 
   -- ---- A removal that is unfinished at the end ----
 
@@ -180,7 +180,7 @@ module _ {top : ℕ} {start : Catalogue} {calls : List Call} (ready : Ready top 
       let m = removes-save s w code key element u y r is some in
       let d = delete-code code key element (m .key) (submit-taken ready s w code key element (r .request) .is-request) (m .is-delete) in
       record {
-        request = subst (λ (c : ℕ). Request start calls s w c key element) (d .three) (r .request);
+        request = rw (d .three) at (r .request);
         operation-same = ap (λ (c : ℕ). operation c key element) (d .three);
       }
 
@@ -198,6 +198,6 @@ module _ {top : ℕ} {start : Catalogue} {calls : List Call} (ready : Ready top 
         request = deletes s w code key element (length calls) y r is some .request;
         unfinished = r .busy;
         row = y;
-        flagged = set-flag (subst (Claimed ready s w (length calls)) is c);
+        flagged = set-flag (rw is at c);
         marked = marked;
       }

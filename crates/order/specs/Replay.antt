@@ -61,7 +61,7 @@ module _ {top : ℕ} {start : Catalogue} {calls : List Call} (ready : Ready top 
           × Agrees (mapAt ready t) (operation (r .code) (r .key) (r .element)) (r .answer) (mapAt ready t))
           → Replays start calls (mapAt ready t) (record { request = s; moment = t } ∷ ps) n
       go (inl e) = is-full (r .worker) (r .code) (r .key) (r .element) (r .finish) (r .ends-so .running .request)
-          (subst (Finished start calls s (r .worker) (r .finish)) e (r .ends-so .finished)) rest
+          (rw e at (r .ends-so .finished)) rest
       go (inr (h, agrees)) =
           answers-then _ (r .worker) (r .code) (r .key) (r .element) (r .finish) (r .answer)
           (r .ends-so .running .request) (r .ends-so .finished) (reading-not-full h) agrees rest
@@ -101,7 +101,7 @@ module _ {top : ℕ} {start : Catalogue} {calls : List Call} (ready : Ready top 
   changes-replay {n} {ps} t [] change d known rest = go (cause ready t)
     where
       go : Cause ready t → Replays start calls (mapAt ready t) ps n
-      go (same-map e) = subst (λ (m : PlainMap). Replays start calls m ps n) e rest
+      go (same-map e) = rw e at rest
       go (changed-by s c) = absurd (List·Memᴰ·not-nil (known s c))
   changes-replay t (s ∷ []) change d known rest = change-then s t (change s (List·Memᴰ·head refl)) rest
   changes-replay t (s ∷ u ∷ xs) change (one-more new d) known rest =

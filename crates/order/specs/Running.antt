@@ -2,7 +2,7 @@
 -- delete has set its flag, removes that row; and it ends with an answer that fits the operation and was right at a moment.
 use Prim.Native.Nat.{ℕ, suc, _≤_, _<_}
 use mathlib.Core.Bool.{Bool, true, false}
-use mathlib.Core.Path.{_≡_, refl, ap, sym, _∙_, subst}
+use mathlib.Core.Path.{_≡_, refl, ap, _∙_}
 use mathlib.Core.Logic.{_⊎_, inl, inr}
 use mathlib.Core.List.{List}
 use native.Mathlib.Omega.{arith}
@@ -23,7 +23,6 @@ use Rattle.kept.specs.Ways.{effectIn, lineOf}
 use Rattle.model.specs.State.{if_then_else_, rowAt, workerAt, idle}
 use Rattle.model.specs.Effects.{callSearchFrom}
 use Rattle.model.specs.Step.{written, firstLine}
-use Rattle.model.specs.declared.Row.{Row}
 use Rattle.model.specs.declared.Worker.{Worker}
 use Rattle.model.specs.declared.Catalogue.{Catalogue}
 use Rattle.model.specs.declared.Answer.{Answer}
@@ -106,7 +105,7 @@ module _ {top : ℕ} {start : Catalogue} {calls : List Call} (ready : Ready top 
       first : (P : Line → Operation → Type 0) → P (callSearchFrom key 0 0 Search1) (search key)
           → P (callSearchFrom key element 0 Insert1) (insert key element) → P (callSearchFrom key 0 0 Delete1) (delete key)
           → P (lineAt start calls (suc s) w) (operation code key element)
-      first P a i d = subst (λ (l : Line). P l (operation code key element)) (sym line) (first-line P code key element a i d)
+      first P a i d = rw line (first-line P code key element a i d)
 
   -- ---- It goes on, or ends ----
 
@@ -176,7 +175,7 @@ module _ {top : ℕ} {start : Catalogue} {calls : List Call} (ready : Ready top 
               → (removedRow (effectNow .line) ≡ noRowRemoved) ⊎ Claimed s w (suc u) (removedRow (effectNow .line))
           go (goes-on same no-new) (inl none) = inl (same ∙ none)
           go (goes-on same no-new) (inr c) =
-              inr (subst (Claimed s w (suc u)) (sym same) (claim-further c (now ∙ same)))
+              inr (rw same (claim-further c (now ∙ same)))
           go (ends none no-new gone) c = inl none
           go (claims {prev = prev} flag none) c = inr (record {
             at = u;
@@ -184,8 +183,7 @@ module _ {top : ℕ} {start : Catalogue} {calls : List Call} (ready : Ready top 
             later = r .since;
             before = omega arith;
             step = accepts;
-            flag = subst (λ (rows : List Row). FlagMove (TableAt ready u) (rowAt rows) prev (removedRow (effectNow .line)))
-                (sym (taken .rows-written)) flag;
+            flag = rw (taken .rows-written) flag;
             removes = λ j low high.
                 let e : j ≡ suc u = omega arith in
                 rw e now;
@@ -234,7 +232,6 @@ module _ {top : ℕ} {start : Catalogue} {calls : List Call} (ready : Ready top 
           | no e ↦ unchanged (other-line (taken .worker) w e)
         ]
         go (steps v a taken) = elim (ℕ-discrete w v) [
-          | yes e ↦ stepped-on (subst (λ (x : ℕ). Accepts start calls u (Step x)) (sym e) a)
-              (subst (StepTaken (stateAt start calls u) (stateAt start calls (suc u))) (sym e) taken)
+          | yes e ↦ stepped-on (rw e a) (rw e taken)
           | no e ↦ unchanged (other-line (taken .worker) w e)
         ]

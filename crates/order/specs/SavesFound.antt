@@ -2,7 +2,7 @@
 -- finished or submitted later, then every search of k submitted after that finish, when it finishes, is answered Found with that element.
 -- The add's own step is its finish, so a delete that has finished before comes before it in the order.
 use Prim.Native.Nat.{ℕ, zero, suc, _<_}
-use mathlib.Core.Path.{_≡_, refl, ap, sym, _∙_, subst}
+use mathlib.Core.Path.{_≡_, refl, ap, sym, _∙_}
 use mathlib.Core.Logic.{_≢_}
 use mathlib.Core.List.{List}
 use mathlib.Core.Option.{some}
@@ -91,7 +91,7 @@ module _ {top : ℕ} {start : Catalogue} {calls : List Call} (ready : Ready top 
       go : Dec (k ≡ key) → mapAt ready (suc t) k ≡ some e
       go (no other) = other-key (mapAt ready t) (mapAt ready (suc t)) k e (delete key) _ agrees other held
       go (yes same) =
-          let gone = no-delete r v element (subst (λ (j : ℕ). Request start calls r v 3 j element) (sym same) (d .request)) in
+          let gone = no-delete r v element (rw same (d .request)) in
           absurd (ended-not-running ready r v (gone .0) t (gone .1) (gone .3) (omega (arith, gone .2)) (run .busy))
 
   holds-from : (t : ℕ) → f < t → mapAt ready t k ≡ some e

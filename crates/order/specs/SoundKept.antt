@@ -2,7 +2,7 @@
 -- calls, for a rank of the tail above all of their keys.
 use Prim.Native.Nat.{ℕ, suc, _+_, _≤_, _<_, max}
 use mathlib.Core.Bool.{true, false}
-use mathlib.Core.Path.{_≡_, refl, ap, sym, _∙_, subst}
+use mathlib.Core.Path.{_≡_, refl, ap, sym, _∙_}
 use mathlib.Core.Logic.{_≢_, _⊎_, inl, inr}
 use mathlib.Core.List.{List, [], _∷_}
 use native.Mathlib.Omega.{arith}
@@ -113,7 +113,7 @@ module _ (top : ℕ) (c c' : Catalogue) (sound : Sound top c) where
   }
     where
       same-rows : (P : List Row → Type 0) → P (c .rows) → P (c' .rows)
-      same-rows P h = subst P (sym (s .rows-same)) h
+      same-rows P h = rw (s .rows-same) h
 
   -- the effect of the step is lawful
   pub step-lawful : (w : ℕ) → StepTaken c c' w
@@ -152,7 +152,7 @@ module _ (top : ℕ) (c c' : Catalogue) (sound : Sound top c) where
       l = step-lawful w s
 
       rows-after : (P : List Row → Type 0) → P after → P (c' .rows)
-      rows-after P h = subst P (sym (s .rows-written)) h
+      rows-after P h = rw (s .rows-written) h
 
 -- the key that a call submits fits
 abbrev pub KeyFits : ℕ → Call → Type 0
@@ -161,9 +161,9 @@ KeyFits top (Step w) = Unit {0}
 
 pub event-keeps-sound : (top : ℕ) {c : Catalogue} (x : Call) {s : Stepped} → Sound top c → KeyFits top x → Event c x s
     → Sound top (s .state)
-event-keeps-sound top x sound fits (refused r v same) = subst (Sound top) (sym same) sound
+event-keeps-sound top x sound fits (refused r v same) = rw same sound
 event-keeps-sound top {c} x {s} sound fits (submitted w code key element small is v s') =
-    submit-keeps-sound top c (s .state) sound w code key element (subst (KeyFits top) is fits) s'
+    submit-keeps-sound top c (s .state) sound w code key element (rw is at fits) s'
 event-keeps-sound top {c} x {s} sound fits (stepped w small is v s') = step-keeps-sound top c (s .state) sound w s'
 
 pub call-keeps-sound : (top : ℕ) (c : Catalogue) (x : Call) → Sound top c → KeyFits top x → Sound top (call c x .state)

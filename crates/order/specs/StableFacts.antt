@@ -124,7 +124,7 @@ helping-survives {top = top} {R = R} {R' = R'} sound move prev del h =
     go (flags m) = m .back= del ∙ h .back-is
     go (private m) = cc (linked-unchanged sound m del (help-del-linked sound prev del (h .help)), h .back-is)
     go (backlinks {prev = other} {del = row} m) = elim (ℕ-discrete del row) [
-      | yes e ↦ cc (m .back-del, help-unique sound prev other del (h .help) (subst (Helpable R other) (sym e) (m .help)))
+      | yes e ↦ cc (m .back-del, help-unique sound prev other del (h .help) (rw e (m .help)))
       | no e ↦ m .back-other del e ∙ h .back-is
     ]
 

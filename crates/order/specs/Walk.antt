@@ -1,7 +1,7 @@
 -- The model's walk from the head: in a sound table of 128 rows it comes to the tail within 127 moves, so it is not cut off, and it meets
 -- exactly the rows on the chain but the two ends, each once and in rising rank.
 use Prim.Native.Nat.{ℕ, zero, suc, _≤_, _<_}
-use mathlib.Core.Path.{_≡_, refl, ap, sym, _∙_, subst}
+use mathlib.Core.Path.{_≡_, refl, ap, _∙_}
 use mathlib.Core.Logic.{_≢_, _⊎_, inl, inr}
 use mathlib.Core.List.{List, [], _∷_, List·Memᴰ·head, List·Memᴰ·tail, List·Memᴰ·not-nil, List·Memᴰ·cases-cons}
 use native.Mathlib.Omega.{arith}
@@ -95,7 +95,7 @@ module _ {top : ℕ} {R : Table} (sound : Structure top R) where
       up = sound .right-above x l h
 
       go : (y ≡ rightOf R x) ⊎ Among y xs → (Among y xs → Met (rightOf R x) y) → Met x y
-      go (inl e) further = subst (Met x) (sym e) (record { linked = linked; above = up; not-tail = k; on-chain = λ c. by-right c h })
+      go (inl e) further = rw e (record { linked = linked; above = up; not-tail = k; on-chain = λ c. by-right c h })
       go (inr q) further =
           let f = further q in
           record {
