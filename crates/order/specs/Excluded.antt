@@ -1,6 +1,6 @@
 -- What the statement of demand 3 excludes, whatever the machine: from an order alone, without a fact about rows or lines. An add that was
--- answered Added is in the map at the end if its key is never deleted; no request that comes after it is answered Absent by itself; and
--- Full is not given while a row is free that was never linked.
+-- answered Added is in the map at the end if its key is never deleted; a request of the key submitted after the add's finish is answered
+-- Absent only if another delete of the key is in the order; and Full is not given while a row is free that was never linked.
 use Prim.Native.Nat.{ℕ, suc, _≤_, _<_}
 use mathlib.Core.Path.{_≡_, refl, ap, sym, _∙_, subst}
 use mathlib.Core.Logic.{_≢_, _⊎_, inl, inr}
@@ -217,7 +217,7 @@ module _ (start : Catalogue) (calls : List Call) where
         request-late = λ r i. b .request-late r (List·Memᴰ·tail i);
       }
 
-      -- what the list begins with: the add, another request before it, or neither of the two
+      -- what the list begins with: the add, the later request, which the bounds exclude, or neither of the two
       first-of : {p : Placed start calls} {ps : List (Placed start calls)} → Bounds (p ∷ ps) → Asks s (p ∷ ps) → Asks q (p ∷ ps)
           → ((p .request ≡ s) → Asks q ps → ⊥) → (Asks s ps → Asks q ps → ⊥) → ⊥
       first-of {p} {ps} b add asks here further = go (ℕ-discrete (p .request) s) (ℕ-discrete (p .request) q)
@@ -254,7 +254,7 @@ module _ (start : Catalogue) (calls : List Call) where
           omega (arith, until-then, add-finish p u code' key' element' g a same r x .1)
       add-in-time p same (is-removing u r) = add-not-removal p u same r
 
-      -- Absent before the mark: there is another delete of key k in the order.
+      -- A request of key k submitted after the add's finish is answered Absent only if another delete of key k is in the order.
       pub not-absent-alone : {before after : PlainMap} (ordered : Ordered start calls before after) → OnlyItDeletes (ordered .order) → ⊥
       not-absent-alone ordered only =
           refuted (ordered .replays)

@@ -43,6 +43,7 @@ module _ {top : ℕ} (rows : List Row) (small : length rows ≤ 128) (sound : St
         row = s .row;
         met = s .met;
         save = walk-meets-chain rows small sound .met-save (s .row) (s .met);
+        linked = walk-meets-chain rows small sound .met-linked (s .row) (s .met);
         unmarked = s .unmarked;
         has-key = s .key;
         has-element = s .element;
