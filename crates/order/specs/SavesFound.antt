@@ -5,7 +5,7 @@
 -- is marked by then: else the add would have been answered Duplicate.
 use Prim.Native.Nat.{ℕ, zero, suc, _≤_, _<_}
 use mathlib.Core.Bool.{true, false}
-use mathlib.Core.Path.{_≡_, refl, ap, sym, _∙_, subst}
+use mathlib.Core.Path.{_≡_, refl, ap, sym, _∙_}
 use mathlib.Core.Logic.{_≢_, inl, inr}
 use mathlib.Core.List.{List}
 use mathlib.Core.Option.{some}
@@ -19,7 +19,7 @@ use Rattle.order.specs.Lawful.{noRowRemoved}
 use Rattle.order.specs.MapOfTable.{map-has, map-lacks, setting-other}
 use Rattle.order.specs.Asking.{Agrees, added-holds}
 use Rattle.order.specs.Memory.{Answered, is-found, is-absent}
-use Rattle.order.specs.Demand.{stateAt, lineAt, Accepts, Request, BusySince, Finished}
+use Rattle.order.specs.Demand.{stateAt, Accepts, Request, BusySince, Finished}
 use Rattle.order.specs.Time.{Ready, structure-at, mover-at, move-at, TableAt}
 use Rattle.order.specs.OneRequest.{idle-not-busy, same-stepper}
 use Rattle.order.specs.Running.{removedAt, Claimed, Running}
@@ -31,7 +31,7 @@ use Rattle.order.specs.Removals.{removes-save, Deletes, deletes}
 use Rattle.order.specs.Compared.{Compared, less, equal, more, compared}
 use Rattle.order.specs.Reached.{empty-ready}
 use Rattle.kept.specs.Conditions.{contradiction}
-use Rattle.model.specs.State.{idle, emptyCatalogue}
+use Rattle.model.specs.State.{emptyCatalogue}
 use Rattle.model.specs.Cas.{succAt}
 use Rattle.model.specs.declared.Catalogue.{Catalogue}
 use Rattle.model.specs.declared.Answer.{Answer}
@@ -79,7 +79,7 @@ module _ (m m' : PlainMap) (k e : ℕ) where
   unfolding answerOf afterAsking
   other-key o a agrees other is = ap (λ (n : PlainMap). n k) (sym (agrees .after)) ∙ setting-other m (keyOf o) k _ other ∙ is
 
-  -- an add that is answered Added is of another key
+  -- and an add that is answered Added is of another key
   added-other : (o : Operation) → Agrees m o Added m' → m k ≡ some e → k ≢ keyOf o
   unfolding answerOf
   added-other o agrees is same = go o (ap (answerHolding o) (sym is ∙ ap m same) ∙ agrees .answer)
@@ -118,9 +118,8 @@ module _ {top : ℕ} {start : Catalogue} {calls : List Call} (ready : Ready top 
       go : Compared (c .at) f → c .at < f
       go (less q) = q
       go (equal q) =
-          let same = same-stepper f v w (subst (λ (i : ℕ). Accepts start calls i (Step v)) q (c .step)) (finished .step) in
-          absurd (idle-not-busy (finished .answered)
-          (subst (λ (u : ℕ). idle (lineAt start calls (suc f) u) ≡ false) same (busy (suc f) (omega (arith, c .later)) later)))
+          let same = same-stepper f v w (rw q at (c .step)) (finished .step) in
+          absurd (idle-not-busy (finished .answered) (rw same at (busy (suc f) (omega (arith, c .later)) later)))
       go (more q) =
           absurd (no-flags r v x (c .at) asked
           (record {
@@ -177,8 +176,7 @@ module _ {top : ℕ} {start : Catalogue} {calls : List Call} (ready : Ready top 
       go : Dec (k ≡ key) → mapAt ready (suc t) k ≡ some e
       go (no other) = other-key (mapAt ready t) (mapAt ready (suc t)) k e (delete key) _ agrees other held
       go (yes same) =
-          absurd (not-marked r v code element t y (subst (λ (j : ℕ). Running ready r v code j element t) (sym same) run) is some-row unmarked
-          later early)
+          absurd (not-marked r v code element t y (rw (sym same) at run) is some-row unmarked later early)
 
   holds-from : (t : ℕ) → f < t → t ≤ h → mapAt ready t k ≡ some e
   holds-from zero later early = absurd (omega arith)
