@@ -15,16 +15,16 @@ use Rattle.model.specs.declared.Worker.{Worker}
 use Rattle.model.specs.declared.Catalogue.{Catalogue}
 use Rattle.model.specs.declared.Line.{Line}
 use Rattle.model.specs.declared.Line.the-variants.{Idle, Search, Insert, Flag, Help}
-use Rattle.kept.specs.Tests.{clash, every}
-use Rattle.kept.specs.Ways.{me, myEffect}
+use Rattle.kept.specs.Ways.{workerIn, effectIn, lineOf}
 use Rattle.kept.specs.Sized.{Sized, EightHelps}
-use Rattle.kept.specs.Facts.{RowNumbers, free-row-numbers, HelpsWell, WellFormed}
+use Rattle.kept.specs.WellFormedFacts.{RowNumbers, free-row-numbers, HelpsWell, WellFormed}
 use Rattle.kept.specs.LineNumbers.{search-numbers, insert-numbers, flag-numbers, help-numbers}
 use Rattle.kept.specs.Sound.{Sound, GoodRows}
 use Rattle.kept.specs.SoundInsert.{insert-line-sound}
 use Rattle.kept.specs.SoundDelete.{flag-line-sound}
 use Rattle.kept.specs.SoundSearch.{search-line-sound}
 use Rattle.kept.specs.SoundHelp.{help-line-sound}
+use Rattle.kept.specs.Conditions.{clash, every}
 
 pub good-rows : (c : Catalogue) → Sized c → WellFormed c → GoodRows (c .rows)
 good-rows c sized well = record { size = sized .rows; numbers = λ i. go i (decLt i 128) }
@@ -51,11 +51,11 @@ line-effect-sound rows good w count last h (Help l f) busy n none = help-line-so
 last-help : (k : Worker) → EightHelps k → HelpsWell k → pendingNumbers 0 (helpAt (k .helps) (k .count - 1)) ≡ true
 last-help k eight h = every pendingNumbers (k .helps) noHelp (h .slots) (k .count - 1) (omega (arith, h .few))
 
-pub effect-sound : (c : Catalogue) (w : ℕ) → Sized c → WellFormed c → w < 8 → idle (me c w .line) ≡ false
-    → Sound (c .rows) w (heldRow (me c w .line)) (me c w .count) (myEffect c w)
+pub effect-sound : (c : Catalogue) (w : ℕ) → Sized c → WellFormed c → w < 8 → idle (lineOf c w) ≡ false
+    → Sound (c .rows) w (heldRow (lineOf c w)) (workerIn c w .count) (effectIn c w)
 unfolding effectOf
 effect-sound c w sized well inside busy =
-    let k = me c w in
+    let k = workerIn c w in
     let mine = well .workers w inside in
     let last = last-help k (sized .helps w) (mine .helps) in
     line-effect-sound (c .rows) (good-rows c sized well) w (k .count) _ last (k .line) busy (mine .numbers) (mine .helps .inside)

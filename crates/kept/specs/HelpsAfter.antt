@@ -6,7 +6,7 @@ use mathlib.Core.List.{List}
 use native.Mathlib.Omega.{arith}
 use lib.ListN.{set, length-set}
 use borrow.Author.Tests.{leb-false}
-use Rattle.model.specs.State.{noHelp, noHelps, idle}
+use Rattle.model.specs.State.{noHelp, noHelps, freshWorker, idle}
 use Rattle.model.specs.Step.{stacked, workerAfter, ninthHelp}
 use Rattle.model.specs.WellFormed.{allFrom, pendingNumbers}
 use Rattle.model.specs.Choices.{if-known}
@@ -16,9 +16,10 @@ use Rattle.model.specs.declared.Line.{Line}
 use Rattle.model.specs.declared.Effect.{Effect}
 use Rattle.model.specs.declared.Stack.{Stack}
 use Rattle.model.specs.declared.Stack.the-variants.{Keep, Push, Pop}
-use Rattle.kept.specs.Tests.{clash, every, if-every, store-keeps}
-use Rattle.kept.specs.Facts.{HelpsWell}
+use Rattle.kept.specs.WellFormedFacts.{HelpsWell}
 use Rattle.kept.specs.Sound.{StackFits}
+use Rattle.kept.specs.Conditions.{clash, every, if-every}
+use Rattle.kept.specs.Stores.{store-keeps}
 
 slots-stored : (helps : List Pending) (i : ℕ) (h : Pending) → allFrom pendingNumbers 0 helps ≡ true → pendingNumbers 0 h ≡ true
     → allFrom pendingNumbers 0 (set helps i h) ≡ true
@@ -46,7 +47,7 @@ unfolding allFrom
 no-help-slots = refl
 
 -- a record with no help, at whatever line
-pub no-helps-well : (line : Line) → HelpsWell (record { line = line; helps = noHelps; count = 0 })
+pub no-helps-well : (line : Line) → HelpsWell (freshWorker line)
 no-helps-well line = record { slots = no-help-slots; few = omega arith; inside = λ _. refl }
 
 pub helps-after : (k : Worker) (e : Effect) → HelpsWell k → ninthHelp (k .count) (e .stack) ≡ false

@@ -1,7 +1,11 @@
-pub mod Tests
+pub mod Conditions
+pub mod Stores
+pub mod Standing
+pub mod FreeRows
+pub mod IdleLine
 pub mod Ways
 pub mod Sized
-pub mod Facts
+pub mod WellFormedFacts
 pub mod LineNumbers
 pub mod NextLine
 pub mod Sound

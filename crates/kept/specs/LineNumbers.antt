@@ -11,7 +11,7 @@ use Rattle.model.specs.declared.FlagFrame.{FlagFrame}
 use Rattle.model.specs.declared.HelpLine.{HelpLine}
 use Rattle.model.specs.declared.HelpFrame.{HelpFrame}
 use Rattle.model.specs.declared.Line.the-variants.{Search, Insert, Flag, Help}
-use Rattle.kept.specs.Tests.{both, both-hold}
+use Rattle.kept.specs.Conditions.{both, both-hold}
 
 pub record SearchNumbers (l : SearchLine) (f : SearchFrame) : Type 0 where
   pub line : searchLineNumbers l ≡ true

@@ -22,8 +22,8 @@ use Rattle.model.specs.declared.HelpLine.the-variants.{HelpFlagged1}
 use Rattle.model.specs.declared.HelpFrame.{HelpFrame}
 use Rattle.model.specs.declared.Line.{Line}
 use Rattle.model.specs.declared.Line.the-variants.{Idle, Search, Insert, Flag, Help}
-use Rattle.kept.specs.Tests.{clash}
 use Rattle.kept.specs.LineNumbers.{SearchNumbers, InsertNumbers, FlagNumbers, HelpNumbers, if-search-numbers, if-insert-numbers, if-flag-numbers, if-help-numbers}
+use Rattle.kept.specs.Conditions.{clash}
 
 pub record NextLine (named count : ℕ) (line : Line) : Type 0 where
   pub numbers : lineNumbers line ≡ true

@@ -14,16 +14,17 @@ use Rattle.model.specs.declared.Catalogue.{Catalogue}
 use Rattle.model.specs.declared.Answer.the-variants.{NoAnswer}
 use Rattle.model.specs.declared.Standing.the-variants.{Held, Linked}
 use Rattle.model.specs.declared.Effect.{Effect}
-use Rattle.kept.specs.Tests.{after-store}
-use Rattle.kept.specs.Ways.{me}
+use Rattle.kept.specs.Ways.{workerIn, lineOf}
 use Rattle.kept.specs.Sized.{Sized}
-use Rattle.kept.specs.Facts.{RowWell, HelpsWell, WorkerWell, WellFormed, free-not-held, linked-not-held, free-not-linked, one-holder}
+use Rattle.kept.specs.WellFormedFacts.{RowWell, HelpsWell, WorkerWell, WellFormed}
 use Rattle.kept.specs.Sound.{SameSave, Standings, kept, taken, given-up, Sound}
+use Rattle.kept.specs.Stores.{after-store}
+use Rattle.kept.specs.Standing.{held-not-linked, free-not-held, free-not-linked, one-holder}
 
 module _ (c : Catalogue) (sized : Sized c) (well : WellFormed c) (w : ℕ) (inside : w < 8) (e : Effect)
-    (sound : Sound (c .rows) w (heldRow (me c w .line)) (me c w .count) e) where
+    (sound : Sound (c .rows) w (heldRow (lineOf c w)) (workerIn c w .count) e) where
   abbrev namedNow : ℕ
-  namedNow = heldRow (me c w .line)
+  namedNow = heldRow (lineOf c w)
 
   abbrev rowsThen : List Row
   rowsThen = written (c .rows) (e .write)
@@ -42,7 +43,7 @@ module _ (c : Catalogue) (sized : Sized c) (well : WellFormed c) (w : ℕ) (insi
       go : Change i → SameSave (rowAt (c .rows) i) (rowAt rowsThen i)
       go (kept same there back) = same
       go (taken free held names) = absurd (free-not-linked free linked)
-      go (given-up names after gone) = absurd (linked-not-held linked (mine i in-range names))
+      go (given-up names after gone) = absurd (held-not-linked (mine i in-range names) linked)
 
   -- a row that another worker holds is still held by it
   others-keep : (v i : ℕ) → v ≢ w → i ≢ noRowHeld → rowAt (c .rows) i .standing ≡ Held v → rowAt rowsThen i .standing ≡ Held v

@@ -1,29 +1,28 @@
 -- A linked row stays linked, and its key and its element never change.
-use Prim.Native.Nat.{ℕ, _≤_, _<_}
+use Prim.Native.Nat.{ℕ, _<_}
 use mathlib.Core.Bool.{true}
-use mathlib.Core.Path.{_≡_, refl, _∙_, ap}
+use mathlib.Core.Path.{_≡_, refl, _∙_}
 use mathlib.Core.Logic.{_≢_}
 use mathlib.Core.List.{List, [], _∷_}
 use native.Mathlib.Omega.{arith}
-use lib.ListN.{length, List·getD-eq-default}
-use Rattle.model.specs.State.{rowAt, freeRow}
+use Rattle.model.specs.State.{rowAt}
 use Rattle.model.specs.WellFormed.{wellFormed, noRowHeld}
 use Rattle.model.specs.Step.{stepWorker, step, submit}
 use Rattle.model.specs.Run.{call, run}
 use Rattle.model.specs.TurnCount.{Steps, no-step, one-more}
 use Rattle.model.specs.declared.Call.{Call}
 use Rattle.model.specs.declared.Call.the-variants.{Submit, Step}
-use Rattle.model.specs.declared.Row.{Row}
 use Rattle.model.specs.declared.Catalogue.{Catalogue}
 use Rattle.model.specs.declared.Standing.the-variants.{Linked}
-use Rattle.kept.specs.Ways.{myEffect, worker-step-ways, step-ways, submit-ways}
+use Rattle.kept.specs.Ways.{effectIn, worker-step-ways, step-ways, submit-ways}
 use Rattle.kept.specs.Sized.{Sized, step-sized}
-use Rattle.kept.specs.Facts.{well-formed-facts, free-not-linked}
+use Rattle.kept.specs.WellFormedFacts.{well-formed-facts}
 use Rattle.kept.specs.Sound.{SameSave}
 use Rattle.kept.specs.EffectSound.{effect-sound}
 use Rattle.kept.specs.Replaced.{linked-kept}
 use Rattle.kept.specs.WellFormedKept.{step-keeps, call-keeps}
 use Rattle.kept.specs.TurnSteps.{public}
+use Rattle.kept.specs.Standing.{linked-inside}
 
 -- Each row that is linked in the first state is linked in the second, with the same key and element.
 abbrev pub SavesKept : Catalogue → Catalogue → Type 0
@@ -33,9 +32,7 @@ all-kept : (c : Catalogue) → SavesKept c c
 all-kept c i linked = record { standing = refl; key = refl; element = refl }
 
 linked-is-row : (c : Catalogue) → Sized c → (i : ℕ) → rowAt (c .rows) i .standing ≡ Linked → i ≢ noRowHeld
-linked-is-row c sized i linked e =
-    let past : length (c .rows) ≤ i = omega (arith, sized .rows) in
-    free-not-linked (ap (λ (r : Row). r .standing) (List·getD-eq-default (c .rows) freeRow past)) linked
+linked-is-row c sized i linked e = omega (arith, sized .rows, linked-inside (c .rows) i linked)
 
 pub worker-step-keeps-saves : (c : Catalogue) (w : ℕ) → w < 8 → Sized c → wellFormed c ≡ true → SavesKept c (stepWorker c w .state)
 worker-step-keeps-saves c w inside sized well =
@@ -45,16 +42,16 @@ worker-step-keeps-saves c w inside sized well =
     (λ _ _. all-kept c)
     (λ busy _ i linked.
     let sound = effect-sound c w sized facts inside busy in
-    linked-kept c sized facts w inside (myEffect c w) sound i (linked-is-row c sized i linked) linked)
+    linked-kept c sized facts w inside (effectIn c w) sound i (linked-is-row c sized i linked) linked)
 
 pub step-keeps-saves : (c : Catalogue) (w : ℕ) → Sized c → wellFormed c ≡ true → SavesKept c (step c w .state)
 step-keeps-saves c w sized well =
-    step-ways c w (λ s. SavesKept c (s .state)) (λ _. all-kept c) (λ inside _. worker-step-keeps-saves c w inside sized well)
+    step-ways c w (λ s. SavesKept c (s .state)) (λ _ _. all-kept c) (λ inside _. worker-step-keeps-saves c w inside sized well)
 
 -- a submit writes no row
 pub submit-keeps-saves : (c : Catalogue) (w code key element : ℕ) → SavesKept c (submit c w code key element .state)
 submit-keeps-saves c w code key element =
-    submit-ways c w code key element (λ s. SavesKept c (s .state)) (λ _. all-kept c) (λ _ _ _. all-kept c)
+    submit-ways c w code key element (λ s. SavesKept c (s .state)) (λ _ _. all-kept c) (λ _ _ _ _. all-kept c)
 
 call-keeps-saves : (c : Catalogue) (x : Call) → Sized c → wellFormed c ≡ true → SavesKept c (call c x .state)
 unfolding call

@@ -18,8 +18,8 @@ use Rattle.model.specs.declared.Write.{Write}
 use Rattle.model.specs.declared.Write.the-variants.{NoRow, OneRow, TwoRows}
 use Rattle.model.specs.declared.Stack.{Stack}
 use Rattle.model.specs.declared.Stack.the-variants.{Keep, Push, Pop}
-use Rattle.kept.specs.Tests.{store-keeps, copy-at}
-use Rattle.kept.specs.Ways.{me, myEffect, worker-step-ways, step-ways, submit-ways, turn-from-ways, turn-ways}
+use Rattle.kept.specs.Ways.{workerIn, effectIn, worker-step-ways, step-ways, submit-ways, turn-from-ways, turn-ways}
+use Rattle.kept.specs.Stores.{store-keeps, copy-at}
 
 -- a worker's record has 8 slots
 abbrev pub EightHelps : Worker → Type 0
@@ -50,7 +50,7 @@ stacked-helps k line Keep h = h
 stacked-helps k line (Push p) h = rw length-set h
 stacked-helps k line Pop h = rw length-set h
 
-after-helps : (k : Worker) (e : Effect) → EightHelps k → EightHelps (workerAfter k e)
+pub after-helps : (k : Worker) (e : Effect) → EightHelps k → EightHelps (workerAfter k e)
 unfolding workerAfter
 after-helps k e h = if-known EightHelps (idle (e .line)) (λ _. refl) (λ _. stacked-helps k (e .line) (e .stack) h)
 
@@ -65,19 +65,19 @@ changed-sized c w rows k s r h = record {
 
 pub worker-step-sized : (c : Catalogue) (w : ℕ) → Sized c → Sized (stepWorker c w .state)
 worker-step-sized c w s =
-    let k = me c w in
-    let e = myEffect c w in
+    let k = workerIn c w in
+    let e = effectIn c w in
     worker-step-ways c w (λ t. Sized (t .state))
     (λ _. s)
     (λ _ _. s)
     (λ _ _. changed-sized c w _ _ s (written-length (c .rows) (e .write) ∙ s .rows) (after-helps k e (s .helps w)))
 
 pub step-sized : (c : Catalogue) (w : ℕ) → Sized c → Sized (step c w .state)
-step-sized c w s = step-ways c w (λ t. Sized (t .state)) (λ _. s) (λ _ _. worker-step-sized c w s)
+step-sized c w s = step-ways c w (λ t. Sized (t .state)) (λ _ _. s) (λ _ _. worker-step-sized c w s)
 
 pub submit-sized : (c : Catalogue) (w code key element : ℕ) → Sized c → Sized (submit c w code key element .state)
 submit-sized c w code key element s =
-    submit-ways c w code key element (λ t. Sized (t .state)) (λ _. s) (λ _ _ _. changed-sized c w _ _ s (s .rows) refl)
+    submit-ways c w code key element (λ t. Sized (t .state)) (λ _ _. s) (λ _ _ _ _. changed-sized c w _ _ s (s .rows) refl)
 
 turn-from-sized : (w left n : ℕ) (c : Catalogue) → Sized c → Sized (turnFrom w left n c .state)
 unfolding turnFrom

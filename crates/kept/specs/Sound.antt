@@ -22,9 +22,9 @@ use Rattle.model.specs.declared.Write.{Write}
 use Rattle.model.specs.declared.Write.the-variants.{NoRow, OneRow}
 use Rattle.model.specs.declared.Stack.{Stack}
 use Rattle.model.specs.declared.Stack.the-variants.{Keep, Push, Pop}
-use Rattle.kept.specs.Tests.{after-store}
-use Rattle.kept.specs.Facts.{RowNumbers}
+use Rattle.kept.specs.WellFormedFacts.{RowNumbers}
 use Rattle.kept.specs.NextLine.{NextLine}
+use Rattle.kept.specs.Stores.{after-store}
 
 -- the same save, with the same standing
 pub record SameSave (old new : Row) : Type 0 where

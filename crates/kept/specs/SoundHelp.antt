@@ -25,11 +25,11 @@ use Rattle.model.specs.declared.HelpLine.the-variants.{HelpFlagged1, HelpFlagge
 use Rattle.model.specs.declared.Effect.{Effect}
 use Rattle.model.specs.declared.Line.the-variants.{Help}
 use Rattle.model.specs.declared.Stack.the-variants.{Push, Pop}
-use Rattle.kept.specs.Tests.{both, both-hold}
 use Rattle.kept.specs.LineNumbers.{HelpNumbers}
 use Rattle.kept.specs.NextLine.{NextLine, to-insert, to-help, to-help-flagged, to-search-from}
 use Rattle.kept.specs.Sound.{Sound, SuccNumbers, GoodRows, one-row, cas-written, moves, writes, reads}
 use Rattle.kept.specs.SoundDelete.{delete-7-next}
+use Rattle.kept.specs.Conditions.{both, both-hold}
 
 returns-next : (rows : List Row) (count : ℕ) → count ≡ 0 → (key element : ℕ) (caller : HelpCaller) → helpCallerNumbers caller ≡ true
     → NextLine (heldInHelp caller) count (helpFlaggedReturns rows key element caller)

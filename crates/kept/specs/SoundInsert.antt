@@ -1,26 +1,23 @@
 -- Insert's lines are sound: line 4 takes a free row, a success links the held row, a duplicate gives it back.
-use Prim.Native.Nat.{ℕ, zero, suc, _+_}
+use Prim.Native.Nat.{ℕ}
 use mathlib.Core.Bool.{true, false, _&&_}
 use mathlib.Core.Path.{_≡_, refl, sym}
-use mathlib.Core.Logic.{_≢_, _⊎_, inl, inr}
+use mathlib.Core.Logic.{_≢_}
 use mathlib.Core.List.{List}
-use native.Mathlib.Omega.{arith}
 use lib.ListN.{set}
 use lib.Dec.{ltb}
 use lib.Seq.{lt-length-set}
-use borrow.Author.Tests.{ltb-true}
 use Rattle.model.specs.State.{rowAt, freeRow, succOf}
 use Rattle.model.specs.Order.{hasKey}
 use Rattle.model.specs.Cas.{sameSucc, flaggedOnly, succAt, withSucc}
 use Rattle.model.specs.Effects.{go, goWriting}
-use Rattle.model.specs.Insert.{insertFrame, insert-2, insert-20, isFree, lowestFreeFrom, lowestFree, insert-4, insert-6, insert-15, linkedRow, insert-10-11, insert-17, insert-18, insertLine}
+use Rattle.model.specs.Insert.{insertFrame, insert-2, insert-20, lowestFree, insert-4, insert-6, insert-15, linkedRow, insert-10-11, insert-17, insert-18, insertLine}
 use Rattle.model.specs.Step.{written}
 use Rattle.model.specs.WellFormed.{isRow, heldRow, heldInInsert, noRowHeld, lineNumbers}
 use Rattle.model.specs.Choices.{if-known}
 use Rattle.model.specs.declared.Row.{Row}
 use Rattle.model.specs.declared.Succ.{Succ}
-use Rattle.model.specs.declared.Standing.{Standing}
-use Rattle.model.specs.declared.Standing.the-variants.{Free, Held, Linked}
+use Rattle.model.specs.declared.Standing.the-variants.{Free, Held}
 use Rattle.model.specs.declared.Answer.{Answer}
 use Rattle.model.specs.declared.Answer.the-variants.{Added, Duplicate, Full}
 use Rattle.model.specs.declared.Line.the-variants.{Idle, Insert}
@@ -31,39 +28,14 @@ use Rattle.model.specs.declared.InsertLine.{InsertLine}
 use Rattle.model.specs.declared.InsertLine.the-variants.{Insert4, Insert6, Insert11, Insert17, Insert18}
 use Rattle.model.specs.declared.Write.{Write}
 use Rattle.model.specs.declared.Write.the-variants.{TwoRows}
-use Rattle.kept.specs.Tests.{clash, both, both-hold, after-store}
-use Rattle.kept.specs.Facts.{RowNumbers, free-row-numbers, free-not-held, linked-not-held}
+use Rattle.kept.specs.WellFormedFacts.{RowNumbers, free-row-numbers}
 use Rattle.kept.specs.Sound.{Standings, kept, taken, given-up, RowStep, Sound, SuccNumbers, GoodRows, with-succ, is-inside, succ-written, writes, reads}
 use Rattle.kept.specs.NextLine.{NextLine, to-idle, to-insert, to-help-flagged, to-search-from}
 use Rattle.kept.specs.LineNumbers.{InsertNumbers}
-
--- ---- The lowest free row ----
-
-is-free : (s : Standing) → isFree s ≡ true → s ≡ Free
-is-free Free h = refl
-is-free (Held w) h = absurd (clash h refl)
-is-free Linked h = absurd (clash h refl)
-
-free-or-none : (rows : List Row) (n i : ℕ) → (rowAt rows (lowestFreeFrom rows n i) .standing ≡ Free) ⊎ (lowestFreeFrom rows n i ≡ i + n)
-unfolding lowestFreeFrom
-free-or-none rows zero i = inr (omega arith)
-free-or-none rows (suc n) i =
-    if-known (λ (j : ℕ). (rowAt rows j .standing ≡ Free) ⊎ (j ≡ i + suc n)) (isFree (rowAt rows i .standing))
-    (λ free. inl (is-free _ free))
-    (λ _. later (free-or-none rows n (i + 1)))
-  where
-    later : {j : ℕ} → (rowAt rows j .standing ≡ Free) ⊎ (j ≡ i + 1 + n) → (rowAt rows j .standing ≡ Free) ⊎ (j ≡ i + suc n)
-    later (inl free) = inl free
-    later (inr none) = inr (omega arith)
-
-lowest-is-free : (rows : List Row) → isRow (lowestFree rows) ≡ true → rowAt rows (lowestFree rows) .standing ≡ Free
-unfolding lowestFree
-lowest-is-free rows isrow = go (free-or-none rows 126 2)
-  where
-    go : (rowAt rows (lowestFreeFrom rows 126 2) .standing ≡ Free) ⊎ (lowestFreeFrom rows 126 2 ≡ 2 + 126)
-        → rowAt rows (lowestFree rows) .standing ≡ Free
-    go (inl free) = free
-    go (inr none) = absurd (omega (arith, ltb-true (lowestFree rows) 128 isrow))
+use Rattle.kept.specs.Conditions.{clash, both, both-hold}
+use Rattle.kept.specs.Stores.{after-store}
+use Rattle.kept.specs.Standing.{held-not-linked, free-not-held}
+use Rattle.kept.specs.FreeRows.{lowest-is-free}
 
 -- ---- Rows taken and given up ----
 
@@ -172,7 +144,7 @@ module _ (rows : List Row) (good : GoodRows rows) (w count : ℕ) where
         let linked = linkedRow (withSucc (rowAt rows new) (succOf next false false)) in
         let after = withSucc (rowAt (set rows new linked) prev) (succOf new false false) in
         let numbers : RowNumbers linked = record { right = isnext; backlink = good .numbers new .backlink; apart = refl } in
-        let link = gives-up new linked isnew numbers (λ v held. linked-not-held refl held) i in-range in
+        let link = gives-up new linked isnew numbers (λ v held. held-not-linked held refl) i in-range in
         let inside = lt-length-set rows new linked (is-inside rows good prev isprev) in
         let pointing : SuccNumbers (succOf new false false) = record { right = isnew; apart = refl } in
         after-store (set rows new linked) prev after freeRow inside (RowStep w new noRowHeld i (rowAt rows i)) i

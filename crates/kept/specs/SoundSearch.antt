@@ -21,12 +21,12 @@ use Rattle.model.specs.declared.SearchLine.{SearchLine}
 use Rattle.model.specs.declared.SearchLine.the-variants.{SearchFrom1, SearchFrom3NextMark, SearchFrom3CurrMark, SearchFrom3CurrRight, SearchFrom4, SearchFrom5HelpMarked1, SearchFrom5HelpMarked2, SearchFrom6, SearchFrom9}
 use Rattle.model.specs.declared.Effect.{Effect}
 use Rattle.model.specs.declared.Line.the-variants.{Search}
-use Rattle.kept.specs.Tests.{both, both-hold}
 use Rattle.kept.specs.LineNumbers.{SearchNumbers}
 use Rattle.kept.specs.NextLine.{to-idle, to-search}
 use Rattle.kept.specs.Sound.{Sound, SuccNumbers, GoodRows, cas-written, writes, reads}
 use Rattle.kept.specs.SoundInsert.{insert-2-sound, insert-20-sound}
 use Rattle.kept.specs.SoundDelete.{delete-2-sound, tryFlag-12-sound}
+use Rattle.kept.specs.Conditions.{both, both-hold}
 
 module _ (rows : List Row) (good : GoodRows rows) (w count : ℕ) (none : count ≡ 0) where
   search-2-sound : (key curr : ℕ) → Sound rows w noRowHeld count (search-2 rows key curr)

@@ -1,7 +1,7 @@
 -- A turn is so many single steps: its count is the number of accepted calls of the public `step`, each with its own check of the
 -- state, that lead from the state with the lent record to the state returned. And a turn keeps that state well formed.
 use Prim.Native.Nat.{ℕ, _<_}
-use mathlib.Core.Bool.{true, false}
+use mathlib.Core.Bool.{true}
 use mathlib.Core.Path.{_≡_}
 use native.Mathlib.Omega.{arith}
 use borrow.Author.Tests.{le-ltb, ltb-false}

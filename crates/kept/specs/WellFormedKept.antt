@@ -1,7 +1,7 @@
 -- A state stays well formed: the empty catalogue is, and every call leaves what it found. Nothing else is asked of the state, so it
 -- may be reached or made by hand.
 use Prim.Native.Nat.{ℕ, _<_}
-use mathlib.Core.Bool.{true, false}
+use mathlib.Core.Bool.{true}
 use mathlib.Core.Path.{_≡_, refl}
 use mathlib.Core.List.{List, [], _∷_}
 use lib.Dec.{eqb}
@@ -10,32 +10,30 @@ use Rattle.model.specs.Order.{head}
 use Rattle.model.specs.Empty.{empty-well-formed}
 use Rattle.model.specs.Answers.{line-after}
 use Rattle.model.specs.Effects.{go}
-use Rattle.model.specs.WellFormed.{heldRow, noRowHeld, insideHelpFlagged, wellFormed}
+use Rattle.model.specs.WellFormed.{heldRow, noRowHeld, wellFormed}
 use Rattle.model.specs.Step.{written, workerAfter, stepWorker, step, submit, firstLine}
 use Rattle.model.specs.declared.Catalogue.{Catalogue}
 use Rattle.model.specs.Run.{call, run}
 use Rattle.model.specs.Choices.{if-known}
 use Rattle.model.specs.declared.Call.{Call}
 use Rattle.model.specs.declared.Call.the-variants.{Submit, Step}
-use Rattle.model.specs.declared.Line.{Line}
-use Rattle.model.specs.declared.Line.the-variants.{Idle, Search, Insert, Flag, Help}
 use Rattle.model.specs.declared.SearchCaller.the-variants.{Search1, Insert1, Delete1}
-use Rattle.kept.specs.Tests.{clash}
-use Rattle.kept.specs.Ways.{me, myEffect, worker-step-ways, step-ways, submit-ways}
+use Rattle.kept.specs.Ways.{workerIn, effectIn, worker-step-ways, step-ways, submit-ways, lineOf}
 use Rattle.kept.specs.Sized.{Sized, empty-sized, worker-step-sized, step-sized, submit-sized}
-use Rattle.kept.specs.Facts.{WellFormed, well-formed-facts, well-formed-test}
+use Rattle.kept.specs.WellFormedFacts.{WellFormed, well-formed-facts, well-formed-test}
 use Rattle.kept.specs.NextLine.{NextLine, to-search-from}
 use Rattle.kept.specs.Sound.{Sound, reads}
 use Rattle.kept.specs.EffectSound.{good-rows, effect-sound}
 use Rattle.kept.specs.HelpsAfter.{helps-after, no-helps-well}
 use Rattle.kept.specs.Replaced.{replaced-well-formed}
+use Rattle.kept.specs.IdleLine.{idle-names-none, idle-outside}
 
 -- ---- A step ----
 
 worker-step-facts : (c : Catalogue) (w : ℕ) → w < 8 → Sized c → WellFormed c → WellFormed (stepWorker c w .state)
 worker-step-facts c w inside sized well =
-    let k = me c w in
-    let e = myEffect c w in
+    let k = workerIn c w in
+    let e = effectIn c w in
     worker-step-ways c w (λ s. WellFormed (s .state))
     (λ _. well)
     (λ _ _. well)
@@ -51,24 +49,9 @@ worker-step-keeps c w inside sized well =
 
 pub step-keeps : (c : Catalogue) (w : ℕ) → Sized c → wellFormed c ≡ true → wellFormed (step c w .state) ≡ true
 step-keeps c w sized well =
-    step-ways c w (λ s. wellFormed (s .state) ≡ true) (λ _. well) (λ inside _. worker-step-keeps c w inside sized well)
+    step-ways c w (λ s. wellFormed (s .state) ≡ true) (λ _ _. well) (λ inside _. worker-step-keeps c w inside sized well)
 
 -- ---- A submit ----
-
-idle-names-none : (line : Line) → idle line ≡ true → heldRow line ≡ noRowHeld
-unfolding heldRow
-idle-names-none (Idle a) h = refl
-idle-names-none (Search l f) h = absurd (clash h refl)
-idle-names-none (Insert l f) h = absurd (clash h refl)
-idle-names-none (Flag l f) h = absurd (clash h refl)
-idle-names-none (Help l f) h = absurd (clash h refl)
-
-idle-outside : (line : Line) → idle line ≡ true → insideHelpFlagged line ≡ false
-idle-outside (Idle a) h = refl
-idle-outside (Search l f) h = refl
-idle-outside (Insert l f) h = refl
-idle-outside (Flag l f) h = refl
-idle-outside (Help l f) h = absurd (clash h refl)
 
 to-first-line : (count : ℕ) → count ≡ 0 → (code key element : ℕ) → NextLine noRowHeld count (firstLine code key element)
 unfolding firstLine
@@ -79,10 +62,10 @@ to-first-line count none code key element =
     (λ _. to-search-from count none key 0 head Delete1 refl refl))
 
 -- A request's first line, as the effect of its submit: it reads nothing yet.
-submit-sound : (c : Catalogue) (w code key element : ℕ) → w < 8 → Sized c → WellFormed c → idle (me c w .line) ≡ true
-    → Sound (c .rows) w (heldRow (me c w .line)) (me c w .count) (go (firstLine code key element))
+submit-sound : (c : Catalogue) (w code key element : ℕ) → w < 8 → Sized c → WellFormed c → idle (lineOf c w) ≡ true
+    → Sound (c .rows) w (heldRow (lineOf c w)) (workerIn c w .count) (go (firstLine code key element))
 submit-sound c w code key element inside sized well rests =
-    let k = me c w in
+    let k = workerIn c w in
     let none = well .workers w inside .helps .inside (idle-outside (k .line) rests) in
     rw (idle-names-none (k .line) rests)
     (reads (c .rows) (good-rows c sized well) w noRowHeld (k .count) _ (to-first-line (k .count) none code key element))
@@ -92,8 +75,8 @@ unfolding written
 submit-facts c w code key element sized well =
     let first = firstLine code key element in
     submit-ways c w code key element (λ s. WellFormed (s .state))
-    (λ _. well)
-    (λ inside _ rests.
+    (λ _ _. well)
+    (λ inside _ _ rests.
     let sound = submit-sound c w code key element inside sized well rests in
     replaced-well-formed c sized well w inside (go first) sound _ refl (no-helps-well first))
 

@@ -3,7 +3,7 @@ use Prim.Native.Nat.{ℕ}
 use mathlib.Core.Bool.{Bool, true, false, not, _&&_}
 use mathlib.Core.List.{List}
 use lib.Dec.{eqb}
-use Rattle.model.specs.State.{if_then_else_, rowAt, succOf}
+use Rattle.model.specs.State.{if_then_else_, rowAt}
 use Rattle.model.specs.declared.Row.{Row}
 use Rattle.model.specs.declared.Succ.{Succ}
 use Rattle.model.specs.declared.Write.{Write}

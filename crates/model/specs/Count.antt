@@ -1,7 +1,7 @@
 -- The count of saves: a walk over row records from the head by right, until the tail or 128 moves, that says how many times it came
 -- to a row above 1 whose standing is linked.
 use Prim.Native.Nat.{ℕ, zero, suc, _+_}
-use mathlib.Core.Bool.{Bool, true, false, _&&_}
+use mathlib.Core.Bool.{Bool, _&&_}
 use mathlib.Core.List.{List, [], _∷_}
 use lib.ListN.{length}
 use lib.Dec.{ltb, eqb}

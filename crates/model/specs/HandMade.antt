@@ -5,7 +5,7 @@ use mathlib.Core.Bool.{Bool, true, false}
 use mathlib.Core.Path.{_≡_, refl}
 use mathlib.Core.List.{List, [], _∷_, map}
 use lib.ListN.{set}
-use Rattle.model.specs.State.{rowAt, workerAt, succOf, freeRow, endRow, noHelps, idleWorker, emptyCatalogue}
+use Rattle.model.specs.State.{rowAt, workerAt, succOf, freeRow, endRow, noHelps, freshWorker, idleWorker, emptyCatalogue}
 use Rattle.model.specs.Insert.{insertFrame}
 use Rattle.model.specs.WellFormed.{wellFormed, rowWell, workerWell, namedIsHeld, holderNames, heldRow, lineNumbers, allFrom}
 use Rattle.model.specs.Step.{withWorker}
@@ -61,9 +61,6 @@ pending prev del = record { prev = prev; del = del }
 abbrev working : Line → List Pending → ℕ → Worker
 working line helps count = record { line = line; helps = helps; count = count }
 
-abbrev alone : Line → Worker
-alone line = working line noHelps 0
-
 -- a request with key 5
 abbrev searching : SearchLine → ℕ → SearchCaller → Line
 searching line curr caller = Search line (record { key = 5; element = 0; curr = curr; caller = caller })
@@ -103,33 +100,33 @@ leftBy i s = left (s .verdict) (rowAt (s .state .rows) i) (workerAt (s .state .w
 -- Line 4 takes a free row that is not zero: all but key and element becomes zero.
 abbrev row-not-zero : Sample
 row-not-zero = record {
-  state = worker0 (alone (inserting (Insert4 1) 0)) (withRow 2 (row 9 9 3 (succOf 3 true false) Free) emptyCatalogue);
+  state = worker0 (freshWorker (inserting (Insert4 1) 0)) (withRow 2 (row 9 9 3 (succOf 3 true false) Free) emptyCatalogue);
   call = Step 0;
   at = 2;
   verdict = Accepted;
   row = held;
-  worker = alone (inserting (Insert6 1 2) 0);
+  worker = freshWorker (inserting (Insert6 1 2) 0);
 }
 
 -- Line 11 fails, as row 3 has come in between: line 10's store in the held row stays.
 abbrev store-stays : Sample
 store-stays = record {
   state =
-      worker0 (alone (inserting (Insert11 1 2) 0))
+      worker0 (freshWorker (inserting (Insert11 1 2) 0))
       (withRow 0 (endRow 3) (withRow 3 (row 4 40 0 (succOf 1 false false) Linked)
       (withRow 2 held emptyCatalogue)));
   call = Step 0;
   at = 2;
   verdict = Accepted;
   row = row 5 50 0 (succOf 1 false false) (Held 0);
-  worker = alone (inserting (Insert17 2) 0);
+  worker = freshWorker (inserting (Insert17 2) 0);
 }
 
 -- Lines 10 and 11 where prev is the held row itself: the store comes first, so that C&S finds what was stored.
 abbrev prev-is-held : Sample
 prev-is-held = record {
   state =
-      worker0 (alone (inserting (Insert11 1 2) 2))
+      worker0 (freshWorker (inserting (Insert11 1 2) 2))
       (withRow 2 held emptyCatalogue);
   call = Step 0;
   at = 2;
@@ -161,12 +158,12 @@ flagged =
 -- HelpFlagged 1 writes the backlink over another.
 abbrev backlink-written-over : Sample
 backlink-written-over = record {
-  state = worker0 (alone (helping HelpFlagged1 0 2)) flagged;
+  state = worker0 (freshWorker (helping HelpFlagged1 0 2)) flagged;
   call = Step 0;
   at = 2;
   verdict = Accepted;
   row = row 5 50 0 (succOf 3 false true) Linked;
-  worker = alone (helping HelpFlagged2 0 2);
+  worker = freshWorker (helping HelpFlagged2 0 2);
 }
 
 -- The eighth pending help is taken; the ninth is refused.
@@ -198,7 +195,7 @@ help-taken-up = record {
   at = 2;
   verdict = Accepted;
   row = row 5 50 3 (succOf 1 false false) Linked;
-  worker = alone (helping TryMark6 0 2);
+  worker = freshWorker (helping TryMark6 0 2);
 }
 
 -- A submit starts with all slots zero. The element of a request other than insert is stored as 0.
@@ -209,7 +206,7 @@ submitted code element caller = record {
   at = 2;
   verdict = Accepted;
   row = freeRow;
-  worker = alone (Search SearchFrom1 (record { key = 5; element = element; curr = 0; caller = caller }));
+  worker = freshWorker (Search SearchFrom1 (record { key = 5; element = element; curr = 0; caller = caller }));
 }
 
 pub samples : List Sample
@@ -235,18 +232,18 @@ broken =
     -- row numbers above 127: in a row, at each kind of line, in a slot that is not in use
     brokenRow 127 (row 0 0 0 (succOf 128 false false) Free)
     ∷ brokenRow 127 (row 0 0 128 (succOf 0 false false) Free)
-    ∷ brokenWorker (alone (searching SearchFrom1 128 Search1))
-    ∷ brokenWorker (alone (searching (SearchFrom4 128) 0 Search1))
-    ∷ brokenWorker (alone (searching (SearchFrom5HelpMarked2 2 128) 0 Search1))
-    ∷ brokenWorker (alone (searching SearchFrom1 0 (TryFlag11 128)))
-    ∷ brokenWorker (alone (searching SearchFrom1 0 (Insert19 128)))
-    ∷ brokenWorker (alone (inserting (Insert4 128) 0))
-    ∷ brokenWorker (alone (inserting (Insert4 1) 128))
-    ∷ brokenWorker (alone (flagging 128 2))
-    ∷ brokenWorker (alone (flagging 0 128))
-    ∷ brokenWorker (alone (helping TryMark6 128 2))
-    ∷ brokenWorker (alone (helping TryMark6 0 128))
-    ∷ brokenWorker (alone (helping (TryMark3 128) 0 2))
+    ∷ brokenWorker (freshWorker (searching SearchFrom1 128 Search1))
+    ∷ brokenWorker (freshWorker (searching (SearchFrom4 128) 0 Search1))
+    ∷ brokenWorker (freshWorker (searching (SearchFrom5HelpMarked2 2 128) 0 Search1))
+    ∷ brokenWorker (freshWorker (searching SearchFrom1 0 (TryFlag11 128)))
+    ∷ brokenWorker (freshWorker (searching SearchFrom1 0 (Insert19 128)))
+    ∷ brokenWorker (freshWorker (inserting (Insert4 128) 0))
+    ∷ brokenWorker (freshWorker (inserting (Insert4 1) 128))
+    ∷ brokenWorker (freshWorker (flagging 128 2))
+    ∷ brokenWorker (freshWorker (flagging 0 128))
+    ∷ brokenWorker (freshWorker (helping TryMark6 128 2))
+    ∷ brokenWorker (freshWorker (helping TryMark6 0 128))
+    ∷ brokenWorker (freshWorker (helping (TryMark3 128) 0 2))
     ∷ brokenWorker (working (Idle NoAnswer) (set noHelps 7 (pending 128 0)) 0)
     ∷ brokenWorker (working (Idle NoAnswer) (set noHelps 7 (pending 0 128)) 0)
     -- mark and flag both set
@@ -263,13 +260,13 @@ broken =
     -- held by no worker, by one that is idle, by one that names another row
     ∷ brokenRow 2 (row 5 50 0 (succOf 0 false false) (Held 8))
     ∷ brokenRow 2 held
-    ∷ withRow 2 held (withRow 3 held (brokenWorker (alone (inserting (Insert6 1 3) 0))))
+    ∷ withRow 2 held (withRow 3 held (brokenWorker (freshWorker (inserting (Insert6 1 3) 0))))
     -- named past line 4, and free, or linked, or held by another
-    ∷ brokenWorker (alone (inserting (Insert6 1 2) 0))
-    ∷ brokenWorker (alone (inserting (Insert17 0) 0))
-    ∷ brokenWorker (alone (searching SearchFrom1 0 (Insert19 2)))
-    ∷ brokenWorker (alone (Help TryMark6 (record { key = 5; element = 0; prev = 0; del = 2; caller = Insert16 0 2 })))
-    ∷ withWorker (withRow 2 (row 5 50 0 (succOf 0 false false) (Held 1)) (brokenWorker (alone (inserting (Insert6 1 2) 0)))) 1 (alone (inserting (Insert6 1 2) 0))
+    ∷ brokenWorker (freshWorker (inserting (Insert6 1 2) 0))
+    ∷ brokenWorker (freshWorker (inserting (Insert17 0) 0))
+    ∷ brokenWorker (freshWorker (searching SearchFrom1 0 (Insert19 2)))
+    ∷ brokenWorker (freshWorker (Help TryMark6 (record { key = 5; element = 0; prev = 0; del = 2; caller = Insert16 0 2 })))
+    ∷ withWorker (withRow 2 (row 5 50 0 (succOf 0 false false) (Held 1)) (brokenWorker (freshWorker (inserting (Insert6 1 2) 0)))) 1 (freshWorker (inserting (Insert6 1 2) 0))
     ∷ []
 
 pub broken-refused : map wellFormed broken ≡ map (λ _. false) broken

@@ -1,6 +1,6 @@
 -- HelpFlagged(prev, del) and TryMark(del), figure 4.
 use Prim.Native.Nat.{ℕ}
-use mathlib.Core.Bool.{Bool, true, false}
+use mathlib.Core.Bool.{true, false}
 use mathlib.Core.List.{List}
 use lib.Dec.{eqb}
 use Rattle.model.specs.State.{if_then_else_, rowAt, succOf}

@@ -1,7 +1,6 @@
 -- Every byte that is printed for a schedule file: a heading, a line for each event that finishes a request or is refused, and a last
 -- line; or one line for a refused file. Each line ends with a line feed.
 use Prim.Native.Nat.{ℕ, zero, suc, _+_, _/_, _%_}
-use mathlib.Core.Bool.{Bool, true, false}
 use mathlib.Core.List.{List, [], _∷_, _++_}
 use lib.Dec.{ltb}
 use Rattle.model.specs.State.{if_then_else_, workerAt, emptyCatalogue}

@@ -1,17 +1,17 @@
 -- What the count of a turn is: taking single steps that often, each accepted, leads to the turn's end state; and the turn stops where
 -- the budget is spent, the worker is idle, or the next step is refused with 5.
 use Prim.Native.Nat.{ℕ, zero, suc, _+_, _≤_}
-use mathlib.Core.Bool.{Bool, true, false, not, true≢false}
-use mathlib.Core.Path.{_≡_, refl, sym, _∙_, ap}
+use mathlib.Core.Bool.{true, false, not, true≢false}
+use mathlib.Core.Path.{_≡_, refl, ap}
 use mathlib.Core.Logic.{_⊎_, inl, inr}
 use native.Mathlib.Omega.{arith}
 use lib.Dec.{ltb, eqb}
 use borrow.Author.Tests.{not-false}
-use Rattle.model.specs.State.{if_then_else_, workerAt, idle}
+use Rattle.model.specs.State.{workerAt, idle}
 use Rattle.model.specs.Choices.{if-both, if-known}
 use Rattle.model.specs.WellFormed.{wellFormed}
 use Rattle.model.specs.Step.{stepWorker, applied, ninthHelp, effectOf, withWorker}
-use Rattle.model.specs.Turn.{accepted, turnEnds, turnFrom, turnOf, turn, refuseTurn}
+use Rattle.model.specs.Turn.{accepted, turnFrom, turnOf, turn, refuseTurn}
 use Rattle.model.specs.Numbers.{refusalNumber}
 use Rattle.model.specs.declared.Worker.{Worker}
 use Rattle.model.specs.declared.Catalogue.{Catalogue}

@@ -2,12 +2,12 @@
 use Prim.Native.Nat.{ℕ}
 use mathlib.Core.Path.{_≡_, refl, ap, sym, _∙_, fun-ext}
 use mathlib.Core.Option.{Option, none, some}
-use native.Mathlib.Omega.{arith}
 use native.Mathlib.Decide.{ℕ-discrete}
 use Rattle.order.specs.Table.{Table}
 use Rattle.order.specs.Structure.{Structure}
 use Rattle.order.specs.PlainMap.{PlainMap, Operation, search, insert, delete, setting, answerHolding, holdingAfter, answerOf, afterAsking}
 use Rattle.order.specs.MapOfTable.{Entry, IsMapOf, setting-same, setting-other, map-has, map-lacks}
+use Rattle.kept.specs.Conditions.{contradiction}
 use Rattle.model.specs.declared.Answer.{Answer}
 use Rattle.model.specs.declared.Answer.the-variants.{Found, Absent, Added, Duplicate, Removed}
 
@@ -56,7 +56,7 @@ module _ (m m' : PlainMap) (k e : ℕ) where
     where
       go : (held : Option ℕ) → m k ≡ held → m' k ≡ some e
       go none is = ap (λ (n : PlainMap). n k) (sym (a .after)) ∙ setting-same m k _ ∙ ap (holdingAfter (insert k e)) is
-      go (some x) is = let z : Duplicate ≡ Added = ap (answerHolding (insert k e)) (sym is) ∙ a .answer in let y : _≡_ {A = ℕ} 0 1 = cc in absurd (omega arith)
+      go (some x) is = let z : Duplicate ≡ Added = ap (answerHolding (insert k e)) (sym is) ∙ a .answer in contradiction (cc)
 
 -- a table has one map
 pub map-unique : {top : ℕ} {R : Table} {M N : PlainMap} → Structure top R → IsMapOf R M → IsMapOf R N → M ≡ N

@@ -9,7 +9,7 @@ use Rattle.order.specs.Table.{Table, rightOf, markOf, flagOf, backOf, ra
 use Rattle.order.specs.Structure.{Structure}
 use Rattle.order.specs.Moves.{BacklinkMove}
 use Rattle.order.specs.StructureFacts.{help-back, help-prev-linked, help-below}
-use Rattle.order.specs.Unchanged.{same-rank, same-regular-after, same-regular-before, same-below-tail, same-right-linked, same-right-above, same-same, same-gap}
+use Rattle.order.specs.Unchanged.{same-rank, same-regular-after, same-regular-before, same-below-tail, same-right-linked, same-right-above, same-same, same-gap, same-right-marked, same-gap-past-marked, same-past-marked-unmarked}
 
 module _ {top : ℕ} {R R' : Table} {prev del : ℕ} (sound : Structure top R) (move : BacklinkMove R R' prev del) where
   rank= : (x : ℕ) → rankOf top R' x ≡ rankOf top R x
@@ -22,10 +22,7 @@ module _ {top : ℕ} {R R' : Table} {prev del : ℕ} (sound : Structure top R) (
   regular-before = same-regular-before R R' (move .standing=) (move .mark=)
 
   right-marked-before : (x : ℕ) → markOf R' (rightOf R' x) ≡ true → markOf R (rightOf R x) ≡ true
-  right-marked-before x k = cc (move .right= x, move .mark= (rightOf R x))
-
-  past-right= : (x : ℕ) → rightOf R' (rightOf R' x) ≡ rightOf R (rightOf R x)
-  past-right= x = cc (move .right= x, move .right= (rightOf R x))
+  right-marked-before = same-right-marked R R' (move .right=) (move .mark=)
 
   flag-before : (x : ℕ) → flagOf R' x ≡ true → flagOf R x ≡ true
   flag-before x h = cc (move .flag= x)
@@ -48,19 +45,13 @@ module _ {top : ℕ} {R R' : Table} {prev del : ℕ} (sound : Structure top R) (
     mark-linked = λ x h. move .standing= x ∙ sound .mark-linked x (cc (move .mark= x));
     same = same-same R' sound (move .key=) regular-before;
     gap = same-gap R' sound (move .key=) regular-before (move .right=);
-    gap-past-marked = λ x z h k l b. rw (past-right= x) (omega (
-      arith,
-      rank= z,
-      rank= (rightOf R (rightOf R x)),
-      sound .gap-past-marked x z (flag-before x h) (right-marked-before x k) (regular-before z l) (omega (arith, rank= x, rank= z)),
-    ));
+    gap-past-marked = same-gap-past-marked R' sound (move .key=) (move .standing=) (move .mark=) (move .right=) (λ x h _. flag-before x h);
     flag-regular = λ x h. regular-after x (sound .flag-regular x (flag-before x h));
     flag-not-at-tail = move .flag= 1 ∙ sound .flag-not-at-tail;
     flag-not-before-tail = λ x h e. sound .flag-not-before-tail x (flag-before x h) (cc (move .right= x));
     marked-is-flagged = λ x l h k. move .flag= x ∙ sound .marked-is-flagged x (regular-before x l) h (right-marked-before x k);
-    past-marked-unmarked = λ x h k.
-        let u = sound .past-marked-unmarked x (flag-before x h) (right-marked-before x k) in
-        rw (past-right= x) (move .mark= _ ∙ u);
+    past-marked-unmarked =
+        same-past-marked-unmarked R' sound (move .key=) (move .standing=) (move .mark=) (move .right=) (λ x h _. flag-before x h);
     back-linked = λ x l. elim (ℕ-discrete x del) [
       | yes e ↦
           let q : backOf R' x ≡ prev = cc (move .back-del) in

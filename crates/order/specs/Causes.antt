@@ -2,75 +2,63 @@
 -- of the delete that owns its flag.
 use Prim.Native.Nat.{ℕ, suc}
 use mathlib.Core.Bool.{true}
-use mathlib.Core.Path.{_≡_, refl, ap, sym, _∙_, subst}
+use mathlib.Core.Path.{_≡_, refl, ap, sym, _∙_}
 use mathlib.Core.Logic.{_≢_, _⊎_, inl, inr}
 use mathlib.Core.List.{List}
 use native.Mathlib.Omega.{arith}
-use Rattle.order.specs.Basics.{clash, held-linked}
 use Rattle.order.specs.Table.{rightOf, standingOf}
 use Rattle.order.specs.StructureFacts.{above-not-head, flagged-right-above}
 use Rattle.order.specs.Moves.{LinkMove, MarkMove}
 use Rattle.order.specs.PlainMap.{PlainMap}
-use Rattle.order.specs.Lawful.{noRowRemoved, removedRow}
-use Rattle.order.specs.Events.{StepTaken, effectIn}
+use Rattle.order.specs.Lawful.{noRowRemoved, idle-removes-none}
+use Rattle.order.specs.Events.{StepTaken, next-line}
 use Rattle.order.specs.Owners.{Owner}
 use Rattle.order.specs.Memory.{links-none}
 use Rattle.order.specs.Demand.{stateAt, lineAt, Accepts}
-use Rattle.order.specs.Time.{Ready, Happening, nothing-happens, submits, steps, happening, owned-at, structure-at, step-move}
-use Rattle.order.specs.Running.{TableAt, removedAt, Ends, Continues, runs, ends-now, continues, step-tells}
+use Rattle.order.specs.Time.{Ready, Happening, nothing-happens, submits, steps, happening, owned-at, structure-at, step-move, TableAt}
+use Rattle.order.specs.Running.{removedAt, Continues, runs, ends-now, continues, step-tells}
 use Rattle.order.specs.OneRequest.{idle-not-busy}
 use Rattle.order.specs.Courses.{Current, current}
 use Rattle.order.specs.MapAt.{mapAt, same-rows-map, Turn, turns-nothing, turns-link, turns-mark, turn-at}
 use Rattle.model.specs.State.{rowAt, idle}
-use Rattle.model.specs.Answers.{line-after}
 use Rattle.model.specs.Step.{written}
-use Rattle.model.specs.declared.Row.{Row}
 use Rattle.model.specs.declared.Standing.the-variants.{Linked}
-use Rattle.model.specs.declared.Worker.{Worker}
 use Rattle.model.specs.declared.Catalogue.{Catalogue}
 use Rattle.model.specs.declared.Answer.the-variants.{Added}
-use Rattle.model.specs.declared.Line.{Line}
-use Rattle.model.specs.declared.Line.the-variants.{Idle, Search, Insert, Flag, Help}
+use Rattle.model.specs.declared.Line.the-variants.{Idle}
 use Rattle.model.specs.declared.Call.{Call}
 use Rattle.model.specs.declared.Call.the-variants.{Step}
 use Rattle.order.specs.MapChanges.{Change, adds, removes}
-
--- an idle worker removes no row
-pub idle-removes-none : (l : Line) → idle l ≡ true → removedRow l ≡ noRowRemoved
-idle-removes-none (Idle a) h = refl
-idle-removes-none (Search l f) h = refl
-idle-removes-none (Insert l f) h = refl
-idle-removes-none (Flag l f) h = refl
-idle-removes-none (Help l f) h = absurd (clash h refl)
+use Rattle.kept.specs.Conditions.{clash}
+use Rattle.kept.specs.Standing.{held-not-linked}
+use Rattle.kept.specs.Ways.{effectIn}
 
 module _ {top : ℕ} {start : Catalogue} {calls : List Call} (ready : Ready top start calls) where
   pub data Cause (t : ℕ) : Type 0 where
     same-map : mapAt ready (suc t) ≡ mapAt ready t → Cause t
     changed-by : (s : ℕ) → Change ready s t → Cause t
 
-  module _ (t w : ℕ) (accepts : Accepts start calls t (Step w)) (taken : StepTaken (stateAt start calls t) (stateAt start calls (suc t)) w) where
+  module _ (t w : ℕ) (accepts : Accepts start calls t (Step w))
+      (taken : StepTaken (stateAt start calls t) (stateAt start calls (suc t)) w) where
     -- the step that links a row finishes its add
     link-cause : (prev new next : ℕ) → LinkMove top w (TableAt ready t) (TableAt ready (suc t)) prev new next → Cause t
     link-cause prev new next m = go (current ready t w)
       where
-        next-line : lineAt start calls (suc t) w ≡ effectIn (stateAt start calls t) w .line
-        next-line = ap (λ (k : Worker). k .line) (taken .worker .now) ∙ line-after _ _
-
         new-linked : standingOf (rowAt (written (stateAt start calls t .rows) (effectIn (stateAt start calls t) w .write))) new ≡ Linked
-        new-linked = subst (λ (rows : List Row). standingOf (rowAt rows) new ≡ Linked) (taken .rows-written) (m .new-linked)
+        new-linked = rw (taken .rows-written) at (m .new-linked)
 
         answers : (c : Current ready w t) → lineAt start calls (suc t) w ≡ Idle Added
         answers c =
             elim (step-tells ready (c .request) w (c .code) (c .key) (c .element) t (c .running) (taken .was-busy) .linking) [
-              | inl none ↦ absurd (held-linked (m .new-held) (links-none (stateAt start calls t .rows) _ none new new-linked))
-              | inr is ↦ next-line ∙ is
+              | inl none ↦ absurd (held-not-linked (m .new-held) (links-none (stateAt start calls t .rows) _ none new new-linked))
+              | inr is ↦ next-line taken ∙ is
             ]
 
         ended-so : (c : Current ready w t) → Continues ready (c .request) w (c .code) (c .key) (c .element) t → Cause t
         ended-so c (runs r same) = absurd (idle-not-busy (answers c) (r .busy (suc t) (r .since) (omega arith)))
         ended-so c (ends-now a e) =
             let same : a ≡ Added = cc (answers c, e .finished .answered) in
-            changed-by (c .request) (adds w (c .code) (c .key) (c .element) (subst (Ends ready (c .request) w (c .code) (c .key) (c .element) t) same e))
+            changed-by (c .request) (adds w (c .code) (c .key) (c .element) (rw same at e))
 
         go : (idle (lineAt start calls t w) ≡ true) ⊎ Current ready w t → Cause t
         go (inl h) = absurd (clash h (taken .was-busy))
@@ -87,7 +75,9 @@ module _ {top : ℕ} {start : Catalogue} {calls : List Call} (ready : Ready top 
         is = o .removes ∙ m .prev-right
 
         some : del ≢ noRowRemoved
-        some = above-not-head top (TableAt ready t) prev del (rw (m .prev-right) at (flagged-right-above (structure-at ready t) prev (m .prev-flagged)))
+        some =
+            let above = flagged-right-above (structure-at ready t) prev (m .prev-flagged) in
+            above-not-head top (TableAt ready t) prev del (rw (m .prev-right) at above)
 
         go : (idle (lineAt start calls t (o .worker)) ≡ true) ⊎ Current ready (o .worker) t → Cause t
         go (inl h) = absurd (some (sym is ∙ idle-removes-none (lineAt start calls t (o .worker)) h))

@@ -15,11 +15,11 @@ use Rattle.model.specs.State.{rowAt}
 use Rattle.model.specs.Count.{walk}
 use Rattle.order.specs.Table.{markOf}
 use Rattle.order.specs.Structure.{Structure}
-use Rattle.order.specs.Basics.{clash, bool-cases}
 use Rattle.order.specs.Distinct.{Among}
 use Rattle.order.specs.TableMap.{Has, shown-has, has-shown}
 use Rattle.order.specs.PlainMap.{PlainMap}
 use Rattle.order.specs.MapOfTable.{Entry, IsMapOf}
+use Rattle.kept.specs.Conditions.{clash, bool-cases}
 
 -- the element of the first of these rows that is unmarked and has key k
 unfoldable pub elementAmong : List Row → ℕ → List ℕ → Option ℕ

@@ -7,15 +7,17 @@ use mathlib.Core.Logic.{_≢_, _⊎_, inl, inr}
 use mathlib.Core.List.{List}
 use native.Mathlib.Omega.{arith}
 use native.Mathlib.Decide.{ℕ-discrete}
-use Rattle.order.specs.Basics.{clash, Compared, less, equal, more, compared}
 use Rattle.order.specs.Lawful.{noRowRemoved}
 use Rattle.order.specs.OneRequest.{idle-not-busy, same-finish}
 use Rattle.order.specs.Demand.{stateAt, lineAt, Request, BusySince, Finished}
 use Rattle.order.specs.Time.{Ready, Happening, nothing-happens, submits, steps, happening, submit-taken}
 use Rattle.order.specs.Running.{removedAt, Running, Ends, begins, Continues, runs, ends-now, continues}
-use Rattle.model.specs.State.{workerAt, idle}
+use Rattle.order.specs.Compared.{Compared, less, equal, more, compared}
+use Rattle.order.specs.Events.{other-line}
+use Rattle.kept.specs.Conditions.{clash}
+use Rattle.kept.specs.Ways.{lineOf}
+use Rattle.model.specs.State.{idle}
 use Rattle.model.specs.Run.{run}
-use Rattle.model.specs.declared.Worker.{Worker}
 use Rattle.model.specs.declared.Catalogue.{Catalogue}
 use Rattle.model.specs.declared.Answer.{Answer}
 use Rattle.model.specs.declared.Call.{Call}
@@ -55,7 +57,7 @@ module _ {top : ℕ} {start : Catalogue} {calls : List Call} (ready : Ready top 
       go (under-way q) = absurd (ended-not-running s w f (suc f) a x (omega arith) (q .busy))
       go (over g b h e) =
           let same = same-finish s w g f b a (e .finished) x in
-          subst (λ (i : ℕ). Ends ready s w code key element i a) (same .0) (subst (Ends ready s w code key element g) (same .1) e)
+          rw (same .0) at (rw (same .1) at e)
 
   -- a running request was running before
   pub ran : (s w code key element j u : ℕ) → Running ready s w code key element u → s < j → j ≤ u → Running ready s w code key element j
@@ -90,7 +92,7 @@ module _ {top : ℕ} {start : Catalogue} {calls : List Call} (ready : Ready top 
             | runs r same ↦ inr (record { request = c .request; code = c .code; key = c .key; element = c .element; running = r })
             | ends-now a e ↦ inl (ap idle (e .finished .answered))
           ]
-      go (inl h) (nothing-happens e) = kept (ap (λ (c : Catalogue). workerAt (c .workers) w .line) e) h
+      go (inl h) (nothing-happens e) = kept (ap (λ (c : Catalogue). lineOf c w) e) h
       go (inl h) (submits v code key element a taken) = elim (ℕ-discrete w v) [
         | yes e ↦ inr (record {
           request = u;
@@ -98,22 +100,24 @@ module _ {top : ℕ} {start : Catalogue} {calls : List Call} (ready : Ready top 
           key = key;
           element = element;
           running =
-              begins ready u w code key element (subst (λ (x : ℕ). Request start calls u x code key element) (sym e) a);
+              begins ready u w code key element (rw e a);
         })
-        | no e ↦ kept (ap (λ (k : Worker). k .line) (taken .worker .others w e)) h
+        | no e ↦ kept (other-line (taken .worker) w e) h
       ]
       go (inl h) (steps v a taken) = elim (ℕ-discrete w v) [
         | yes e ↦ absurd (clash h (ap (λ (x : ℕ). idle (lineAt start calls u x)) e ∙ taken .was-busy))
-        | no e ↦ kept (ap (λ (k : Worker). k .line) (taken .worker .others w e)) h
+        | no e ↦ kept (other-line (taken .worker) w e) h
       ]
 
   -- two requests of one worker do not run at one time
-  overlap : (s w code key element s' code' key' element' u : ℕ) → Running ready s w code key element u → Running ready s' w code' key' element' u
+  overlap : (s w code key element s' code' key' element' u : ℕ) → Running ready s w code key element u
+      → Running ready s' w code' key' element' u
       → s < s' → ⊥
   overlap s w code key element s' code' key' element' u r r' h =
       clash (submit-taken ready s' w code' key' element' (r' .request) .was-idle) (r .busy s' h (omega (arith, r' .since)))
 
-  pub alone : (s w code key element s' code' key' element' u : ℕ) → Running ready s w code key element u → Running ready s' w code' key' element' u
+  pub alone : (s w code key element s' code' key' element' u : ℕ) → Running ready s w code key element u
+      → Running ready s' w code' key' element' u
       → s ≡ s'
   alone s w code key element s' code' key' element' u r r' = go (compared s s')
     where
@@ -138,5 +142,5 @@ module _ {top : ℕ} {start : Catalogue} {calls : List Call} (ready : Ready top 
       ]
 
       go : Dec (j ≡ suc u) → (j ≤ u → removedAt ready u w ≡ y) → removedAt ready (suc u) w ≡ y
-      go (yes e) before = subst (λ (i : ℕ). removedAt ready i w ≡ y) e is
+      go (yes e) before = rw e at is
       go (no e) before = step (omega arith) (before (omega arith))

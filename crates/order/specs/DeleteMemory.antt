@@ -8,16 +8,16 @@ use mathlib.Core.List.{List}
 use native.Mathlib.Omega.{arith}
 use lib.Dec.{eqb}
 use borrow.Author.Tests.{eqb-false}
-use Rattle.order.specs.Table.{markOf, rankOf}
+use Rattle.order.specs.Table.{markOf, rankOf, tablesOf}
 use Rattle.order.specs.Structure.{Structure}
 use Rattle.order.specs.Moves.{Move}
 use Rattle.order.specs.Facts.{AtMost, Above, SaveOf, AllHold, facts}
-use Rattle.order.specs.Tests.{has-key}
 use Rattle.order.specs.Timeline.{RegularWithin, LacksWithin, marked-within, lacks-within, unmarked-or-lacks, lacks-past-other}
 use Rattle.order.specs.Lawful.{choose}
 use Rattle.order.specs.PlainMap.{delete}
-use Rattle.order.specs.Memory.{Tells, UnmarkedOrLacks}
+use Rattle.order.specs.Memory.{Tells, UnmarkedOrLacks, none-removed}
 use Rattle.order.specs.InsertMemory.{low-not-tail}
+use Rattle.order.specs.LineConditions.{has-key}
 use Rattle.model.specs.State.{if_then_else_, rowAt, succOf}
 use Rattle.model.specs.Choices.{if-both, if-known}
 use Rattle.model.specs.Order.{hasKey}
@@ -37,7 +37,7 @@ module _ (top : ℕ) (rowsAt : ℕ → List Row) (who : ℕ → ℕ) (sound : (i
     (move : (i : ℕ) → Move top (who i) (rowAt (rowsAt i)) (rowAt (rowsAt (suc i)))) (t u : ℕ) (since : t ≤ u) (me : ℕ) where
   -- Delete, lines 2 to 4.
   pub delete-2-tells : (k prev del : ℕ) → suc k < top → markOf (rowAt (rowsAt t)) prev ≡ false
-      → RegularWithin (λ (i : ℕ). rowAt (rowsAt i)) t u prev del → AtMost top (rowAt (rowsAt u)) prev k → Above top (rowAt (rowsAt u)) del k
+      → RegularWithin (tablesOf rowsAt) t u prev del → AtMost top (rowAt (rowsAt u)) prev k → Above top (rowAt (rowsAt u)) del k
       → Tells me rowsAt t u (delete k) 0 (delete-2 (rowsAt u) k prev del)
   unfolding delete-2
   delete-2-tells k prev del fits unmarked was low high =
@@ -49,7 +49,7 @@ module _ (top : ℕ) (rowsAt : ℕ → List Row) (who : ℕ → ℕ) (sound : (i
           operation-same = refl;
           past = (
             unmarked,
-            unmarked-or-lacks (λ (i : ℕ). rowAt (rowsAt i)) who sound move t u prev del k was not-tail (omega (arith, low .low))
+            unmarked-or-lacks (tablesOf rowsAt) who sound move t u prev del k was not-tail (omega (arith, low .low))
                 (found .no-end) (found .the-key),
           );
           removed-same = inl refl;
@@ -59,10 +59,8 @@ module _ (top : ℕ) (rowsAt : ℕ → List Row) (who : ℕ → ℕ) (sound : (i
       (λ other.
       let differ : rankOf top (rowAt (rowsAt u)) del ≢ suc k = has-key top (rowsAt u) del k fits .if-false other in
       record {
-        next = (
-          refl,
-          lacks-within (λ (i : ℕ). rowAt (rowsAt i)) who sound move t u prev del k was not-tail (omega (arith, low .low)) (omega (arith, high .high)),
-        );
+        next = none-removed refl (lacks-within (tablesOf rowsAt) who sound move t u prev del k was not-tail
+            (omega (arith, low .low)) (omega (arith, high .high)));
         linking = inl tt;
       })
     where
@@ -71,24 +69,24 @@ module _ (top : ℕ) (rowsAt : ℕ → List Row) (who : ℕ → ℕ) (sound : (i
 
   -- TryFlag, lines 12 and 13.
   pub tryFlag-12-tells : (k prev del target : ℕ) → suc k < top → markOf (rowAt (rowsAt t)) prev ≡ false
-      → RegularWithin (λ (i : ℕ). rowAt (rowsAt i)) t u prev del → AtMost top (rowAt (rowsAt u)) prev k → Above top (rowAt (rowsAt u)) del k
-      → SaveOf (rowAt (rowsAt u)) target k → UnmarkedOrLacks (λ (i : ℕ). rowAt (rowsAt i)) t u k target
+      → RegularWithin (tablesOf rowsAt) t u prev del → AtMost top (rowAt (rowsAt u)) prev k → Above top (rowAt (rowsAt u)) del k
+      → SaveOf (rowAt (rowsAt u)) target k → UnmarkedOrLacks (tablesOf rowsAt) t u k target
       → Tells me rowsAt t u (delete k) 0 (tryFlag-12 k prev del target)
   unfolding tryFlag-12
   tryFlag-12-tells k prev del target fits unmarked was low high save past =
       if-known (Tells me rowsAt t u (delete k) 0) (eqb del target)
       (λ _. record { next = record { operation-same = refl; past = (unmarked, past); removed-same = inl refl }; linking = inl tt })
-      (λ other. record { next = (refl, absent (eqb-false del target other) past); linking = inl tt })
+      (λ other. record { next = none-removed refl (absent (eqb-false del target other) past); linking = inl tt })
     where
-      absent : del ≢ target → UnmarkedOrLacks (λ (i : ℕ). rowAt (rowsAt i)) t u k target → LacksWithin (λ (i : ℕ). rowAt (rowsAt i)) t u k
+      absent : del ≢ target → UnmarkedOrLacks (tablesOf rowsAt) t u k target → LacksWithin (tablesOf rowsAt) t u k
       absent other (inr lacks) = lacks
       absent other (inl h) =
-          lacks-past-other (λ (i : ℕ). rowAt (rowsAt i)) who sound move t u prev del target k since was
+          lacks-past-other (tablesOf rowsAt) who sound move t u prev del target k since was
           (low-not-tail top (rowsAt u) prev k k fits (omega arith) low) (omega (arith, low .low)) (omega (arith, high .high)) other
           (save .linked) (save .no-end) (save .has-key) h
 
   module _ (hs : List Pending) (f : FlagFrame) (unmarked : markOf (rowAt (rowsAt t)) (f .prev) ≡ false)
-      (past : UnmarkedOrLacks (λ (i : ℕ). rowAt (rowsAt i)) t u (f .key) (f .target)) where
+      (past : UnmarkedOrLacks (tablesOf rowsAt) t u (f .key) (f .target)) where
     -- Line 2.
     tryFlag-2-tells : Tells me rowsAt t u (delete (f .key)) 0 (tryFlag-2 (rowsAt u) f)
     unfolding tryFlag-2
@@ -128,14 +126,14 @@ module _ (top : ℕ) (rowsAt : ℕ → List Row) (who : ℕ → ℕ) (sound : (i
     tryFlag-10-tells marked = record {
       next = record {
         operation-same = refl;
-        past = (marked-within (λ (i : ℕ). rowAt (rowsAt i)) who sound move t u (f .prev) since unmarked marked .back-unmarked, past);
+        past = (marked-within (tablesOf rowsAt) who sound move t u (f .prev) since unmarked marked .back-unmarked, past);
         removed-same = inl refl;
       };
       linking = inl tt;
     }
 
   pub flag-tells : (hs : List Pending) (f : FlagFrame) (l : FlagLine) → AllHold top me (rowAt (rowsAt u)) (facts (Flag l f) hs)
-      → markOf (rowAt (rowsAt t)) (f .prev) ≡ false → UnmarkedOrLacks (λ (i : ℕ). rowAt (rowsAt i)) t u (f .key) (f .target)
+      → markOf (rowAt (rowsAt t)) (f .prev) ≡ false → UnmarkedOrLacks (tablesOf rowsAt) t u (f .key) (f .target)
       → Tells me rowsAt t u (delete (f .key)) 0 (flagLine (rowsAt u) f l)
   unfolding flagLine
   flag-tells hs f TryFlag2 known unmarked past = tryFlag-2-tells hs f unmarked past

@@ -1,20 +1,19 @@
 -- The lines of Delete and TryFlag are lawful: the flag of line 4 is the one move among them, and claims the target.
-use Prim.Native.Nat.{ℕ, suc, _≤_, _<_}
+use Prim.Native.Nat.{ℕ, suc, _<_}
 use mathlib.Core.Bool.{Bool, true, false}
 use mathlib.Core.Path.{_≡_, refl, ap, sym, _∙_}
 use mathlib.Core.List.{List, []}
 use native.Mathlib.Omega.{arith}
 use lib.Dec.{eqb}
-use borrow.Author.Tests.{eqb-true}
-use Rattle.order.specs.Table.{rightOf, flagOf, standingOf}
 use Rattle.order.specs.Structure.{Structure, flagged-for}
 use Rattle.order.specs.Moves.{flags, FlagMove}
 use Rattle.order.specs.Facts.{AtMost, Above, SaveOf, AllHold, facts, called-alone}
 use Rattle.order.specs.StableFacts.{save-survives}
-use Rattle.order.specs.Tests.{has-key, same-succ}
-use Rattle.order.specs.Writes.{one-written, linked-inside, flag-written}
+use Rattle.order.specs.Writes.{one-written, flag-written}
 use Rattle.order.specs.Lawful.{Lawful, claims, choose, read}
 use Rattle.order.specs.InsertSteps.{not-tail, back-low}
+use Rattle.order.specs.LineConditions.{has-key, same-succ}
+use Rattle.kept.specs.Standing.{linked-inside}
 use Rattle.model.specs.State.{if_then_else_, rowAt, succOf}
 use Rattle.model.specs.Choices.{if-known}
 use Rattle.model.specs.Order.{hasKey}
@@ -116,7 +115,8 @@ module _ (top me : ℕ) (rows : List Row) (sound : Structure top (rowAt rows)) (
         }
           where
             m : FlagMove (rowAt rows) (rowAt (written rows (OneRow (f .prev) flagged-row))) (f .prev) (f .target)
-            m = flag-written found (low .linked) (not-tail top me rows sound hs (f .prev) (f .key) fits low) (λ e. omega (arith, save .no-end))
+            m = flag-written found (low .linked) (not-tail top me rows sound hs (f .prev) (f .key) fits low)
+                (λ e. omega (arith, save .no-end))
                 (one-written rows (f .prev) flagged-row (linked-inside rows (f .prev) (low .linked)))
 
     -- Line 9.
@@ -128,13 +128,15 @@ module _ (top me : ℕ) (rows : List Row) (sound : Structure top (rowAt rows)) (
         (λ _. read top me rows noRowHeld 0 hs _ refl refl (fits, (alone, (low, (save, tt)))))
 
     -- Line 10.
-    pub tryFlag-10-lawful : AllHold top me (rowAt rows) (facts (Flag TryFlag10 f) hs) → Lawful top me rows noRowHeld 0 hs (tryFlag-10 rows f)
+    pub tryFlag-10-lawful : AllHold top me (rowAt rows) (facts (Flag TryFlag10 f) hs)
+        → Lawful top me rows noRowHeld 0 hs (tryFlag-10 rows f)
     unfolding tryFlag-10 heldRow
     tryFlag-10-lawful (fits, (alone, (low, (save, (marked, _))))) =
         read top me rows noRowHeld 0 hs _ refl refl
         (fits, (alone, (back-low top me rows sound hs (f .prev) (f .key) low marked, (save, tt))))
 
-    pub flag-lawful : (l : FlagLine) → AllHold top me (rowAt rows) (facts (Flag l f) hs) → Lawful top me rows noRowHeld 0 hs (flagLine rows f l)
+    pub flag-lawful : (l : FlagLine) → AllHold top me (rowAt rows) (facts (Flag l f) hs)
+        → Lawful top me rows noRowHeld 0 hs (flagLine rows f l)
     unfolding flagLine
     flag-lawful TryFlag2 known = tryFlag-2-lawful known
     flag-lawful TryFlag4 known = tryFlag-4-lawful known

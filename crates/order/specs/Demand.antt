@@ -5,7 +5,7 @@ use mathlib.Core.Bool.{true, false}
 use mathlib.Core.Path.{_≡_}
 use mathlib.Core.Logic.{_≢_, _⊎_, _↔_}
 use mathlib.Core.List.{List, [], _∷_, List·Memᴰ}
-use mathlib.Core.Option.{Option, none, some}
+use mathlib.Core.Option.{some}
 use lib.ListN.{length, take, getD}
 use Rattle.model.specs.State.{rowAt, workerAt, idle, succOf, emptyCatalogue}
 use Rattle.model.specs.Order.{head}
@@ -56,7 +56,7 @@ module _ (start : Catalogue) (calls : List Call) where
   abbrev pub BusySince : ℕ → ℕ → ℕ → Type 0
   BusySince s w i = (j : ℕ) → s < j → j ≤ i → idle (lineAt j w) ≡ false
 
-  -- The step at position f makes the worker idle again, with answer a.
+  -- The request that worker w submitted at s is finished by the step at f, with answer a.
   pub record Finished (s w f : ℕ) (a : Answer) : Type 0 where
     pub later : s < f
     pub step : Accepts f (Step w)
@@ -160,15 +160,17 @@ module _ (start : Catalogue) (calls : List Call) where
   abbrev pub FullExactly : Type 0
   FullExactly = (i w : ℕ) → Accepts i (Step w) → (lineAt (suc i) w ≡ Idle Full) ↔ (LooksForRow i w × NoRowLeft i)
 
--- A map holds exactly the unmarked saves on the chain: those that the count's walk from the head comes to.
+-- A save on the chain: the count's walk from the head comes to it, it is linked and unmarked.
 pub record UnmarkedSave (rows : List Row) (key element : ℕ) : Type 0 where
   pub row : ℕ
   pub met : List·Memᴰ row (walk 128 rows head)
   pub save : 1 < row
+  pub linked : rowAt rows row .standing ≡ Linked
   pub unmarked : succAt rows row .mark ≡ false
   pub has-key : rowAt rows row .key ≡ key
   pub has-element : rowAt rows row .element ≡ element
 
+-- A map holds exactly the unmarked saves on the chain: those that the count's walk from the head comes to.
 abbrev pub HoldsTheChain : PlainMap → List Row → Type 0
 HoldsTheChain m rows = (key element : ℕ) → (m key ≡ some element) ↔ UnmarkedSave rows key element
 

@@ -8,19 +8,19 @@ use mathlib.Core.List.{List, [], _∷_, List·Memᴰ·not-nil, List·Memᴰ·cas
 use native.Mathlib.Omega.{arith}
 use lib.ListN.{length}
 use borrow.Author.Tests.{lt-leb}
-use Rattle.order.specs.Basics.{clash}
-use Rattle.order.specs.Table.{Table, rightOf, markOf, flagOf, rankOf}
+use Rattle.order.specs.Table.{Table, rightOf, markOf, flagOf, rankOf, tableOf}
 use Rattle.order.specs.Structure.{Helpable, flagged-for, already-marked}
 use Rattle.order.specs.StructureFacts.{above-not-head, flagged-right-above}
 use Rattle.order.specs.Facts.{Helping}
 use Rattle.order.specs.Distinct.{Among, Distinct, no-number, one-more, distinct-below}
-use Rattle.order.specs.Stack.{newest-length}
+use Rattle.order.specs.Stack.{newest-length, stackIn}
 use Rattle.order.specs.Lawful.{Chained, Pushable, noRowRemoved}
-use Rattle.order.specs.Events.{tableOf, lineOf, stackIn, effectIn}
 use Rattle.order.specs.EveryLine.{effect-lawful}
 use Rattle.order.specs.Owners.{Owner, removedBy}
 use Rattle.order.specs.Reached.{Reached, removes-inside}
-use Rattle.model.specs.State.{workerAt, idle}
+use Rattle.kept.specs.Conditions.{clash}
+use Rattle.kept.specs.Ways.{lineOf, effectIn, workerIn}
+use Rattle.model.specs.State.{idle}
 use Rattle.model.specs.Step.{ninthHelp}
 use Rattle.model.specs.declared.Catalogue.{Catalogue}
 use Rattle.model.specs.declared.Pending.{Pending}
@@ -100,7 +100,7 @@ module _ {top : ℕ} {c : Catalogue} (r : Reached top c) where
   live-below : (h : Pending) (p : ℕ) → flagOf (tableOf c) p ≡ true → p ≡ h .del → Helping (tableOf c) (h .prev) (h .del)
       → LiveFlag (tableOf c) (h .prev) p
   live-below h p flagged same helping =
-      live-flag (subst (Helpable (tableOf c) (h .prev)) (sym same) (helping .help)) (r .sound .structure .flag-regular p flagged .unmarked)
+      live-flag (rw same (helping .help)) (r .sound .structure .flag-regular p flagged .unmarked)
 
   -- the flag at p, and under it the pending helps: each has an owner
   owners : (hs : List Pending) (p : ℕ) → flagOf (tableOf c) p ≡ true → Chained (tableOf c) hs p
@@ -130,7 +130,7 @@ module _ {top : ℕ} {c : Catalogue} (r : Reached top c) where
     pushable : Pushable (tableOf c) (stackIn c w) (effectIn c w .stack)
     pushable =
         let sound = r .sound in
-        effect-lawful top w (c .rows) (workerAt (c .workers) w) (sound .structure) (sound .row-count) busy (sound .known w) .pushable
+        effect-lawful top w (c .rows) (workerIn c w) (sound .structure) (sound .sizes .rows) busy (sound .known w) .pushable
 
     pub pushed-live : (h : Pending) → effectIn c w .stack ≡ Push h → AllLive (tableOf c) (h ∷ stackIn c w)
     pushed-live h push =
@@ -139,19 +139,19 @@ module _ {top : ℕ} {c : Catalogue} (r : Reached top c) where
         all-live (h ∷ stackIn c w) (h .del) (now .0) (now .1)
 
     -- at most six are pending before a push, and so seven after it
-    pub six-pending : (h : Pending) → effectIn c w .stack ≡ Push h → workerAt (c .workers) w .count ≤ 6
+    pub six-pending : (h : Pending) → effectIn c w .stack ≡ Push h → workerIn c w .count ≤ 6
     six-pending h push =
         let now : Pushable (tableOf c) (stackIn c w) (Push h) =
         subst (Pushable (tableOf c) (stackIn c w)) push pushable in
         let os = owners (h ∷ stackIn c w) (h .del) (now .0) (now .1) in
         let few = distinct-below 8 (os .workers) (os .distinct)
-        (λ v m. omega (arith, removes-inside (c .workers) v (os .removes v m), r .sound .worker-count)) in
-        omega (arith, few, os .many, newest-length (workerAt (c .workers) w .helps) (workerAt (c .workers) w .count))
+        (λ v m. omega (arith, removes-inside (c .workers) v (os .removes v m), r .sound .sizes .workers)) in
+        omega (arith, few, os .many, newest-length (workerIn c w .helps) (workerIn c w .count))
 
-    pub no-ninth : ninthHelp (workerAt (c .workers) w .count) (effectIn c w .stack) ≡ false
+    pub no-ninth : ninthHelp (workerIn c w .count) (effectIn c w .stack) ≡ false
     no-ninth = by-stack (effectIn c w .stack) refl
       where
-        by-stack : (s : Stack) → effectIn c w .stack ≡ s → ninthHelp (workerAt (c .workers) w .count) (effectIn c w .stack) ≡ false
-        by-stack Keep e = rw e (keeps (workerAt (c .workers) w .count))
-        by-stack (Push h) e = rw e (pushes (workerAt (c .workers) w .count) h (six-pending h e))
-        by-stack Pop e = rw e (pops (workerAt (c .workers) w .count))
+        by-stack : (s : Stack) → effectIn c w .stack ≡ s → ninthHelp (workerIn c w .count) (effectIn c w .stack) ≡ false
+        by-stack Keep e = rw e (keeps (workerIn c w .count))
+        by-stack (Push h) e = rw e (pushes (workerIn c w .count) h (six-pending h e))
+        by-stack Pop e = rw e (pops (workerIn c w .count))

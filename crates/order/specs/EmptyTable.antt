@@ -5,25 +5,21 @@ use mathlib.Core.Bool.{false}
 use mathlib.Core.Path.{_≡_, refl, ap, sym, subst}
 use mathlib.Core.Logic.{_≢_}
 use native.Mathlib.Omega.{arith}
-use lib.ListN.{getD, replicate}
 use Rattle.model.specs.declared.Row.{Row}
 use Rattle.model.specs.State.{freeRow, rowAt, emptyCatalogue}
 use Rattle.order.specs.Table.{Table, rightOf, markOf, flagOf, backOf, rankOf, IsLinked, Regular}
 use Rattle.order.specs.Structure.{Structure}
-use Rattle.order.specs.Basics.{clash, free-linked}
 use Rattle.order.specs.StructureFacts.{head-rank, tail-rank}
+use Rattle.kept.specs.Conditions.{clash}
+use Rattle.kept.specs.Standing.{free-not-linked}
+use Rattle.kept.specs.Stores.{copy-at}
 
 abbrev pub emptyTable : Table
 emptyTable = rowAt (emptyCatalogue .rows)
 
--- past the end of a list of free rows stands a free row too
-free-everywhere : (n x : ℕ) → getD (replicate n freeRow) x freeRow ≡ freeRow
-free-everywhere zero x = refl
-free-everywhere (suc n) zero = refl
-free-everywhere (suc n) (suc x) = free-everywhere n x
-
+-- past the end of the rows stands a free one too
 pub empty-save : (x : ℕ) → emptyTable (suc (suc x)) ≡ freeRow
-empty-save x = free-everywhere 126 x
+empty-save x = copy-at 126 freeRow x
 
 pub empty-unflagged : (x : ℕ) → flagOf emptyTable x ≡ false
 empty-unflagged zero = refl
@@ -43,7 +39,7 @@ pub data End (x : ℕ) : Type 0 where
 pub empty-ends : (x : ℕ) → IsLinked emptyTable x → End x
 empty-ends zero h = is-head refl
 empty-ends (suc zero) h = is-tail refl
-empty-ends (suc (suc x)) h = absurd (free-linked (ap (λ (r : Row). r .standing) (empty-save x)) h)
+empty-ends (suc (suc x)) h = absurd (free-not-linked (ap (λ (r : Row). r .standing) (empty-save x)) h)
 
 module _ (top : ℕ) (positive : 1 ≤ top) where
   at-head : rankOf top emptyTable 0 ≡ 0
@@ -75,8 +71,7 @@ module _ (top : ℕ) (positive : 1 ≤ top) where
       → rankOf top emptyTable (rightOf emptyTable x) ≤ rankOf top emptyTable z
   empty-gap x z (is-head e) (is-head f) h = absurd (omega (arith, ap (rankOf top emptyTable) e, ap (rankOf top emptyTable) f))
   empty-gap x z (is-head e) (is-tail f) h =
-      subst (λ y. rankOf top emptyTable (rightOf emptyTable y) ≤ rankOf top emptyTable z) (sym e)
-      (omega (arith, ap (rankOf top emptyTable) f))
+      rw e (omega (arith, ap (rankOf top emptyTable) f))
   empty-gap x z (is-tail e) (is-head f) h =
       absurd (omega (arith, ap (rankOf top emptyTable) e, ap (rankOf top emptyTable) f, at-head, at-tail))
   empty-gap x z (is-tail e) (is-tail f) h = absurd (omega (arith, ap (rankOf top emptyTable) e, ap (rankOf top emptyTable) f))
@@ -101,8 +96,7 @@ module _ (top : ℕ) (positive : 1 ≤ top) where
     back-below = λ x l n. elim (empty-ends x l) [
       | is-head e ↦ absurd (n e)
       | is-tail e ↦
-          subst (λ y. rankOf top emptyTable (backOf emptyTable y) < rankOf top emptyTable y) (sym e)
-          (omega (arith, at-head, at-tail))
+          rw e (omega (arith, at-head, at-tail))
     ];
     back-of-marked = λ x h k. absurd (clash h (empty-unflagged x));
   }

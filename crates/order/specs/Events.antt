@@ -1,62 +1,42 @@
 -- What a call of the catalogue is: refused, an accepted submit, or an accepted step; each with what it leaves. Proofs about runs go by
 -- these three cases.
 use Prim.Native.Nat.{ℕ, _<_}
-use mathlib.Core.Bool.{true, false, not}
-use mathlib.Core.Path.{_≡_, refl, sym, subst}
+use mathlib.Core.Bool.{true, false}
+use mathlib.Core.Path.{_≡_, refl, ap, _∙_}
 use mathlib.Core.Logic.{_≢_}
-use mathlib.Core.List.{List}
 use native.Mathlib.Omega.{arith}
 use native.Mathlib.Decide.{ℕ-discrete}
-use lib.Dec.{ltb}
 use lib.ListN.{length, set, length-set}
 use lib.Seq.{getD-set-same, getD-set-other}
-use borrow.Author.Tests.{ltb-false, not-false}
-use Rattle.order.specs.Table.{Table}
-use Rattle.order.specs.Stack.{stackOf}
-use Rattle.model.specs.State.{rowAt, workerAt, idleWorker, idle, noHelps}
-use Rattle.model.specs.Choices.{if-known}
+use Rattle.kept.specs.Ways.{lineOf, effectIn, pushesNinth, submittedWorker, step-ways, worker-step-ways, submit-ways, workerIn}
+use Rattle.model.specs.State.{idleWorker, idle}
 use Rattle.model.specs.WellFormed.{wellFormed}
-use Rattle.model.specs.Step.{refuse, written, workerAfter, ninthHelp, effectOf, applied, stepWorker, step, isRequest, firstLine, submit}
+use Rattle.model.specs.Step.{refuse, written, workerAfter, step, isRequest, submit}
 use Rattle.model.specs.Run.{call}
+use Rattle.model.specs.Answers.{line-after}
 use Rattle.model.specs.declared.Answer.the-variants.{NoAnswer}
-use Rattle.model.specs.declared.Pending.{Pending}
-use Rattle.model.specs.declared.Line.{Line}
 use Rattle.model.specs.declared.Worker.{Worker}
 use Rattle.model.specs.declared.Catalogue.{Catalogue}
 use Rattle.model.specs.declared.Refusal.{Refusal}
-use Rattle.model.specs.declared.Refusal.the-variants.{NoSuchWorker, WorkerBusy, WorkerIdle, NotWellFormed, NinthHelp, NoSuchRequest}
+use Rattle.model.specs.declared.Refusal.the-variants.{WorkerIdle, NinthHelp}
 use Rattle.model.specs.declared.Verdict.the-variants.{Accepted, Refused}
-use Rattle.model.specs.declared.Effect.{Effect}
 use Rattle.model.specs.declared.Stepped.{Stepped}
 use Rattle.model.specs.declared.Call.{Call}
 use Rattle.model.specs.declared.Call.the-variants.{Submit, Step}
 
-abbrev pub tableOf : Catalogue → Table
-tableOf c = rowAt (c .rows)
-
-abbrev pub lineOf : Catalogue → ℕ → Line
-lineOf c w = workerAt (c .workers) w .line
-
--- the pending helps of worker w, the newest first
-abbrev pub stackIn : Catalogue → ℕ → List Pending
-stackIn c w = stackOf (workerAt (c .workers) w)
-
 -- worker w is k in c' and the others are as in c
 pub record WorkerPut (c c' : Catalogue) (w : ℕ) (k : Worker) : Type 0 where
-  pub now : workerAt (c' .workers) w ≡ k
-  pub others : (v : ℕ) → v ≢ w → workerAt (c' .workers) v ≡ workerAt (c .workers) v
+  pub now : workerIn c' w ≡ k
+  pub others : (v : ℕ) → v ≢ w → workerIn c' v ≡ workerIn c v
   pub size : length (c' .workers) ≡ length (c .workers)
 
 -- what holds of k, and of every other worker as it was, holds of every worker
 pub each-worker : {c c' : Catalogue} {w : ℕ} {k : Worker} → WorkerPut c c' w k → (P : ℕ → Worker → Type 0) → P w k
-    → ((v : ℕ) → v ≢ w → P v (workerAt (c .workers) v)) → (v : ℕ) → P v (workerAt (c' .workers) v)
+    → ((v : ℕ) → v ≢ w → P v (workerIn c v)) → (v : ℕ) → P v (workerIn c' v)
 each-worker {c' = c'} {w = w} put P mine theirs v = elim (ℕ-discrete v w) [
-  | yes e ↦ subst (λ (u : ℕ). P u (workerAt (c' .workers) u)) (sym e) (subst (P w) (sym (put .now)) mine)
-  | no e ↦ subst (P v) (sym (put .others v e)) (theirs v e)
+  | yes e ↦ rw e (rw (put .now) mine)
+  | no e ↦ rw (put .others v e) (theirs v e)
 ]
-
-abbrev pub submittedWorker : ℕ → ℕ → ℕ → Worker
-submittedWorker code key element = record { line = firstLine code key element; helps = noHelps; count = 0 }
 
 pub record Submitted (c c' : Catalogue) (w code key element : ℕ) : Type 0 where
   pub well-formed : wellFormed c ≡ true
@@ -65,16 +45,19 @@ pub record Submitted (c c' : Catalogue) (w code key element : ℕ) : Type 0 wher
   pub rows-same : c' .rows ≡ c .rows
   pub worker : WorkerPut c c' w (submittedWorker code key element)
 
--- the effect of worker w's line
-abbrev pub effectIn : Catalogue → ℕ → Effect
-effectIn c w = effectOf (c .rows) w (workerAt (c .workers) w)
-
 pub record StepTaken (c c' : Catalogue) (w : ℕ) : Type 0 where
   pub well-formed : wellFormed c ≡ true
   pub was-busy : idle (lineOf c w) ≡ false
-  pub few-helps : ninthHelp (workerAt (c .workers) w .count) (effectIn c w .stack) ≡ false
+  pub few-helps : pushesNinth c w ≡ false
   pub rows-written : c' .rows ≡ written (c .rows) (effectIn c w .write)
-  pub worker : WorkerPut c c' w (workerAfter (workerAt (c .workers) w) (effectIn c w))
+  pub worker : WorkerPut c c' w (workerAfter (workerIn c w) (effectIn c w))
+
+-- the lines after it: of w, and of another worker
+pub next-line : {c c' : Catalogue} {w : ℕ} → StepTaken c c' w → lineOf c' w ≡ effectIn c w .line
+next-line taken = ap (λ (k : Worker). k .line) (taken .worker .now) ∙ line-after _ _
+
+pub other-line : {c c' : Catalogue} {w : ℕ} {k : Worker} → WorkerPut c c' w k → (v : ℕ) → v ≢ w → lineOf c' v ≡ lineOf c v
+other-line put v differ = ap (λ (k : Worker). k .line) (put .others v differ)
 
 pub data Event (c : Catalogue) (x : Call) (s : Stepped) : Type 0 where
   refused : (r : Refusal) → s .verdict ≡ Refused r → s .state ≡ c → Event c x s
@@ -94,34 +77,26 @@ module _ (c : Catalogue) (x : Call) (size : length (c .workers) ≡ 8) where
   }
 
   step-event : (w : ℕ) → x ≡ Step w → Event c x (step c w)
-  unfolding step stepWorker applied
-  step-event w is-step =
-      if-known (Event c x) (ltb 7 w) (λ _. refusal NoSuchWorker)
-      (λ small. if-known (Event c x) (not (wellFormed c)) (λ _. refusal NotWellFormed)
-      (λ well. if-known (Event c x) (idle (lineOf c w)) (λ _. refusal WorkerIdle)
-      (λ busy. if-known (Event c x) (ninthHelp (workerAt (c .workers) w .count) (effectIn c w .stack)) (λ _. refusal NinthHelp)
-      (λ few. stepped w (omega (arith, ltb-false 7 w small)) is-step refl (record {
-        well-formed = not-false (wellFormed c) well;
+  step-event w is-step = step-ways c w (Event c x) (λ r _. refusal r) (λ small well.
+      worker-step-ways c w (Event c x) (λ _. refusal WorkerIdle) (λ _ _. refusal NinthHelp) (λ busy few.
+      stepped w small is-step refl (record {
+        well-formed = well;
         was-busy = busy;
         few-helps = few;
         rows-written = refl;
-        worker = put-worker _ w _ (omega (arith, ltb-false 7 w small)) refl;
-      })))))
+        worker = put-worker _ w _ small refl;
+      })))
 
   submit-event : (w code key element : ℕ) → x ≡ Submit w code key element → Event c x (submit c w code key element)
-  unfolding submit
   submit-event w code key element is-submit =
-      if-known (Event c x) (ltb 7 w) (λ _. refusal NoSuchWorker)
-      (λ small. if-known (Event c x) (not (wellFormed c)) (λ _. refusal NotWellFormed)
-      (λ well. if-known (Event c x) (not (isRequest code)) (λ _. refusal NoSuchRequest)
-      (λ known. if-known (Event c x) (not (idle (lineOf c w))) (λ _. refusal WorkerBusy)
-      (λ was-idle. submitted w code key element (omega (arith, ltb-false 7 w small)) is-submit refl (record {
-        well-formed = not-false (wellFormed c) well;
-        is-request = not-false (isRequest code) known;
-        was-idle = not-false (idle (lineOf c w)) was-idle;
+      submit-ways c w code key element (Event c x) (λ r _. refusal r) (λ small well known rests.
+      submitted w code key element small is-submit refl (record {
+        well-formed = well;
+        is-request = known;
+        was-idle = rests;
         rows-same = refl;
-        worker = put-worker _ w _ (omega (arith, ltb-false 7 w small)) refl;
-      })))))
+        worker = put-worker _ w _ small refl;
+      }))
 
 pub call-event : (c : Catalogue) (x : Call) → length (c .workers) ≡ 8 → Event c x (call c x)
 unfolding call

@@ -1,10 +1,9 @@
 -- Every line of a busy worker whose facts hold is lawful.
-use Prim.Native.Nat.{ℕ, _-_}
+use Prim.Native.Nat.{ℕ}
 use mathlib.Core.Bool.{false}
 use mathlib.Core.Path.{_≡_, refl}
 use mathlib.Core.List.{List}
 use lib.ListN.{length}
-use Rattle.order.specs.Basics.{clash}
 use Rattle.order.specs.Structure.{Structure}
 use Rattle.order.specs.Stack.{Newest, newest, stackOf}
 use Rattle.order.specs.Facts.{AllHold, facts}
@@ -13,6 +12,7 @@ use Rattle.order.specs.SearchSteps.{search-lawful}
 use Rattle.order.specs.InsertSteps.{insert-lawful}
 use Rattle.order.specs.DeleteSteps.{flag-lawful}
 use Rattle.order.specs.HelpSteps.{help-lawful}
+use Rattle.kept.specs.Conditions.{clash}
 use Rattle.model.specs.State.{rowAt, idle}
 use Rattle.model.specs.Step.{lineEffect, effectOf}
 use Rattle.model.specs.WellFormed.{heldRow}

@@ -2,7 +2,7 @@
 -- of others is proved once for each fact (StableFacts), never for a pair of lines.
 use Prim.Native.Nat.{ℕ, suc, _≤_, _<_}
 use mathlib.Core.Bool.{true, false}
-use mathlib.Core.Path.{_≡_, sym, subst}
+use mathlib.Core.Path.{_≡_}
 use mathlib.Core.List.{List, [], _∷_}
 use Rattle.order.specs.Table.{Table, rightOf, markOf, flagOf, backOf, standingOf, rankOf, IsLinked}
 use Rattle.order.specs.Structure.{Helpable}
@@ -12,7 +12,6 @@ use Rattle.model.specs.declared.Standing.the-variants.{Held}
 use Rattle.model.specs.declared.Pending.{Pending}
 use Rattle.model.specs.declared.SearchCaller.{SearchCaller}
 use Rattle.model.specs.declared.SearchCaller.the-variants.{Search1, Insert1, Insert19, Delete1, TryFlag11}
-use Rattle.model.specs.declared.SearchFrame.{SearchFrame}
 use Rattle.model.specs.declared.SearchLine.{SearchLine}
 use Rattle.model.specs.declared.SearchLine.the-variants.{SearchFrom1, SearchFrom3NextMark, SearchFrom3CurrMark, SearchFrom3CurrRight, SearchFrom4, SearchFrom5HelpMarked1, SearchFrom5HelpMarked2, SearchFrom6, SearchFrom9}
 use Rattle.model.specs.declared.InsertFrame.{InsertFrame}
@@ -23,7 +22,6 @@ use Rattle.model.specs.declared.FlagLine.{FlagLine}
 use Rattle.model.specs.declared.FlagLine.the-variants.{TryFlag2, TryFlag4, TryFlag9, TryFlag10}
 use Rattle.model.specs.declared.HelpCaller.{HelpCaller}
 use Rattle.model.specs.declared.HelpCaller.the-variants.{Insert8, Insert16, Delete6}
-use Rattle.model.specs.declared.HelpFrame.{HelpFrame}
 use Rattle.model.specs.declared.HelpLine.{HelpLine}
 use Rattle.model.specs.declared.HelpLine.the-variants.{HelpFlagged1, HelpFlagged2, TryMark2, TryMark3, TryMark6, HelpMarked1, HelpMarked2}
 use Rattle.model.specs.declared.Line.{Line}
@@ -175,4 +173,4 @@ facts (Help l f) hs =
 pub called-alone : (top w : ℕ) (R : Table) (key element : ℕ) (caller : HelpCaller) (hs : List Pending) (prev del : ℕ) → hs ≡ []
     → AllHold top w R (helpCallerFacts key element del caller) → AllHold top w R (pendingFacts key element caller hs prev del)
 called-alone top w R key element caller hs prev del alone known =
-    subst (λ (s : List Pending). AllHold top w R (pendingFacts key element caller s prev del)) (sym alone) known
+    rw alone known

@@ -4,18 +4,14 @@ use Prim.Native.Nat.{ℕ}
 use mathlib.Core.Bool.{true}
 use mathlib.Core.Path.{_≡_, sym, _∙_}
 use mathlib.Core.Logic.{_≢_}
-use native.Mathlib.Omega.{arith}
 use native.Mathlib.Decide.{ℕ-discrete}
-use Rattle.order.specs.Table.{Table, rightOf, markOf, flagOf, rankOf, Regular}
+use Rattle.order.specs.Table.{Table, rightOf, markOf, flagOf, Regular}
 use Rattle.order.specs.Structure.{Structure}
 use Rattle.order.specs.Moves.{FlagMove}
-use Rattle.order.specs.Basics.{clash}
-use Rattle.order.specs.Unchanged.{same-rank, same-regular-after, same-regular-before, same-below-tail, same-back-linked, same-back-below, same-right-linked, same-right-above, same-same, same-gap}
+use Rattle.order.specs.Unchanged.{same-regular-after, same-regular-before, same-below-tail, same-back-linked, same-back-below, same-right-linked, same-right-above, same-same, same-gap, same-right-marked, same-gap-past-marked, same-past-marked-unmarked}
+use Rattle.kept.specs.Conditions.{clash}
 
 module _ {top : ℕ} {R R' : Table} {prev target : ℕ} (sound : Structure top R) (move : FlagMove R R' prev target) where
-  rank= : (x : ℕ) → rankOf top R' x ≡ rankOf top R x
-  rank= = same-rank top R R' (move .key=)
-
   regular-after : (x : ℕ) → Regular R x → Regular R' x
   regular-after = same-regular-after R R' (move .standing=) (move .mark=)
 
@@ -23,10 +19,7 @@ module _ {top : ℕ} {R R' : Table} {prev target : ℕ} (sound : Structure top R
   regular-before = same-regular-before R R' (move .standing=) (move .mark=)
 
   right-marked-before : (x : ℕ) → markOf R' (rightOf R' x) ≡ true → markOf R (rightOf R x) ≡ true
-  right-marked-before x k = cc (move .right= x, move .mark= (rightOf R x))
-
-  past-right= : (x : ℕ) → rightOf R' (rightOf R' x) ≡ rightOf R (rightOf R x)
-  past-right= x = cc (move .right= x, move .right= (rightOf R x))
+  right-marked-before = same-right-marked R R' (move .right=) (move .mark=)
 
   -- where the right neighbour is marked the flag is old: `prev` was unflagged, so its neighbour is unmarked
   flag-before : (x : ℕ) → flagOf R' x ≡ true → markOf R' (rightOf R' x) ≡ true → flagOf R x ≡ true
@@ -59,12 +52,7 @@ module _ {top : ℕ} {R R' : Table} {prev target : ℕ} (sound : Structure top R
     mark-linked = λ x h. move .standing= x ∙ sound .mark-linked x (cc (move .mark= x));
     same = same-same R' sound (move .key=) regular-before;
     gap = same-gap R' sound (move .key=) regular-before (move .right=);
-    gap-past-marked = λ x z h k l b. rw (past-right= x) (omega (
-      arith,
-      rank= z,
-      rank= (rightOf R (rightOf R x)),
-      sound .gap-past-marked x z (flag-before x h k) (right-marked-before x k) (regular-before z l) (omega (arith, rank= x, rank= z)),
-    ));
+    gap-past-marked = same-gap-past-marked R' sound (move .key=) (move .standing=) (move .mark=) (move .right=) flag-before;
     flag-regular = flag-regular';
     flag-not-at-tail = move .flag-other 1 (λ e. move .prev-not-tail (sym e)) ∙ sound .flag-not-at-tail;
     flag-not-before-tail = flag-not-before-tail';
@@ -72,9 +60,8 @@ module _ {top : ℕ} {R R' : Table} {prev target : ℕ} (sound : Structure top R
       | yes e ↦ cc (move .flag-prev)
       | no e ↦ move .flag-other x e ∙ sound .marked-is-flagged x (regular-before x l) h (right-marked-before x k)
     ];
-    past-marked-unmarked = λ x h k.
-        let u = sound .past-marked-unmarked x (flag-before x h k) (right-marked-before x k) in
-        rw (past-right= x) (move .mark= _ ∙ u);
+    past-marked-unmarked =
+        same-past-marked-unmarked R' sound (move .key=) (move .standing=) (move .mark=) (move .right=) flag-before;
     back-linked = same-back-linked R' sound (move .key=) (move .standing=) (move .back=);
     back-below = same-back-below R' sound (move .key=) (move .standing=) (move .back=);
     back-of-marked = λ x h k. rw (move .right= x) (move .back= _ ∙ sound .back-of-marked x (flag-before x h k) (right-marked-before x k));

@@ -5,16 +5,17 @@ use mathlib.Core.Path.{_≡_, refl, ap, sym, _∙_}
 use mathlib.Core.Logic.{_≢_}
 use mathlib.Core.List.{List}
 use native.Mathlib.Decide.{ℕ-discrete}
-use Rattle.order.specs.Basics.{clash}
 use Rattle.order.specs.Table.{Table, rightOf, flagOf}
 use Rattle.order.specs.Structure.{Structure, flagged-for}
 use Rattle.order.specs.StructureFacts.{flagged-unique, help-unique}
 use Rattle.order.specs.Moves.{UnlinkMove}
 use Rattle.order.specs.Stack.{stackAfter}
 use Rattle.order.specs.Facts.{Frozen, Helping, AllHold, facts}
-use Rattle.order.specs.Tests.{same-succ, same-succ-refl}
-use Rattle.order.specs.Writes.{one-written, linked-inside, unlink-written}
+use Rattle.order.specs.Writes.{one-written, unlink-written}
 use Rattle.order.specs.Lawful.{Lawful, removedRow, noRowRemoved, ends, with-removal, Pushable, read-stacking, shared, unlink-shared}
+use Rattle.order.specs.LineConditions.{same-succ, same-succ-refl}
+use Rattle.kept.specs.Conditions.{clash}
+use Rattle.kept.specs.Standing.{linked-inside}
 use Rattle.model.specs.State.{rowAt, succOf}
 use Rattle.model.specs.Choices.{if-known}
 use Rattle.model.specs.Cas.{sameSucc, succAt, withSucc, cas}
@@ -24,10 +25,9 @@ use Rattle.model.specs.WellFormed.{heldRow}
 use Rattle.model.specs.declared.Row.{Row}
 use Rattle.model.specs.declared.Succ.{Succ}
 use Rattle.model.specs.declared.Pending.{Pending}
-use Rattle.model.specs.declared.Effect.{Effect}
 use Rattle.model.specs.declared.Line.{Line}
 use Rattle.model.specs.declared.Write.{Write}
-use Rattle.model.specs.declared.Write.the-variants.{NoRow, OneRow}
+use Rattle.model.specs.declared.Write.the-variants.{OneRow}
 use Rattle.model.specs.declared.Stack.{Stack}
 
 -- the table after prev has swung past del to right
@@ -35,7 +35,8 @@ abbrev swung : List Row → ℕ → ℕ → Table
 swung rows prev right = rowAt (written rows (OneRow prev (withSucc (rowAt rows prev) (succOf right false false))))
 
 module _ (top me : ℕ) (rows : List Row) (sound : Structure top (rowAt rows)) (held removed : ℕ) (hs : List Pending)
-    (prev del right : ℕ) (frozen : Frozen (rowAt rows) del right) (line : Line) (s : Stack) (pushable : Pushable (rowAt rows) hs s) (same-held : heldRow line ≡ held)
+    (prev del right : ℕ) (frozen : Frozen (rowAt rows) del right) (line : Line) (s : Stack)
+    (pushable : Pushable (rowAt rows) hs s) (same-held : heldRow line ≡ held)
     (known : AllHold top me (rowAt rows) (facts line (stackAfter hs s))) where
   unlinked : succAt rows prev ≡ succOf del false true
       → UnlinkMove (rowAt rows) (swung rows prev right) prev del right
@@ -49,7 +50,9 @@ module _ (top me : ℕ) (rows : List Row) (sound : Structure top (rowAt rows)) (
   help-marked-lawful same-removed =
       if-known (λ (w : Write). Lawful top me rows held removed hs (record { line = line; write = w; stack = s }))
       (sameSucc (succAt rows prev) (succOf del false true))
-      (λ same. shared top me rows held removed hs _ sound (unlink-shared me sound (unlinked (same-succ _ _ same))) pushable same-held same-removed known)
+      (λ same.
+      let m = unlinked (same-succ _ _ same) in
+      shared top me rows held removed hs _ sound (unlink-shared me sound m) pushable same-held same-removed known)
       (λ _. read-stacking top me rows held removed hs line s pushable same-held same-removed known)
 
   -- where this was the help of the row that the worker removes: no flag is set for it any more
@@ -73,10 +76,13 @@ module _ (top me : ℕ) (rows : List Row) (sound : Structure top (rowAt rows)) (
           → flagOf (swung rows prev right) x ≡ true → rightOf (swung rows prev right) x ≢ del
       past m x h e = elim (ℕ-discrete x prev) [
         | yes q ↦ clash h (ap (λ (y : ℕ). flagOf (swung rows prev right) y) q ∙ m .flag-prev)
-        | no q ↦ q (flagged-unique sound x prev (sym (m .flag-other x q) ∙ h) (m .prev-flagged) (sym (m .right-other x q) ∙ e ∙ sym (m .prev-right)))
+        | no q ↦
+            let same-right = sym (m .right-other x q) ∙ e ∙ sym (m .prev-right) in
+            q (flagged-unique sound x prev (sym (m .flag-other x q) ∙ h) (m .prev-flagged) same-right)
       ]
 
-      failed : sameSucc (succAt rows prev) (succOf del false true) ≡ false → (x : ℕ) → flagOf (rowAt rows) x ≡ true → rightOf (rowAt rows) x ≢ del
+      failed : sameSucc (succAt rows prev) (succOf del false true) ≡ false → (x : ℕ) → flagOf (rowAt rows) x ≡ true
+          → rightOf (rowAt rows) x ≢ del
       failed differs x h e =
           let q : prev ≡ x = help-unique sound prev x del (helping .help) (flagged-for h e) in
           let at-x : succAt rows x ≡ succOf del false true =

@@ -7,14 +7,14 @@ use mathlib.Core.Logic.{inl, inr}
 use mathlib.Core.List.{List}
 use native.Mathlib.Omega.{arith}
 use borrow.Author.Tests.{eq-eqb, ne-eqb}
-use Rattle.order.specs.Table.{markOf}
+use Rattle.order.specs.Table.{markOf, tablesOf}
 use Rattle.order.specs.Structure.{Structure}
 use Rattle.order.specs.Moves.{Move}
 use Rattle.order.specs.Stack.{Newest, nothing-pending, pending}
 use Rattle.order.specs.Facts.{SaveOf, AllHold, facts, helpCallerFacts}
 use Rattle.order.specs.Timeline.{LacksWithin, lacks-since-marked}
 use Rattle.order.specs.Lawful.{removedInHelp}
-use Rattle.order.specs.Memory.{Tells, UnmarkedOrLacks, helpOperation, helpCallerPast, cas-links-none}
+use Rattle.order.specs.Memory.{Tells, UnmarkedOrLacks, helpOperation, helpCallerPast, cas-links-none, is-removed, none-removed}
 use Rattle.model.specs.State.{rowAt}
 use Rattle.model.specs.Choices.{if-both}
 use Rattle.model.specs.Cas.{flaggedOnly, succAt}
@@ -36,14 +36,14 @@ module _ (top : ℕ) (rowsAt : ℕ → List Row) (who : ℕ → ℕ) (sound : (i
     (move : (i : ℕ) → Move top (who i) (rowAt (rowsAt i)) (rowAt (rowsAt (suc i)))) (t u : ℕ) (since : t ≤ u) (me : ℕ) where
   -- the target is marked now
   target-gone : (k target : ℕ) → SaveOf (rowAt (rowsAt u)) target k → markOf (rowAt (rowsAt u)) target ≡ true
-      → UnmarkedOrLacks (λ (i : ℕ). rowAt (rowsAt i)) t u k target → LacksWithin (λ (i : ℕ). rowAt (rowsAt i)) t u k
+      → UnmarkedOrLacks (tablesOf rowsAt) t u k target → LacksWithin (tablesOf rowsAt) t u k
   target-gone k target save marked (inr lacks) = lacks
   target-gone k target save marked (inl unmarked) =
-      lacks-since-marked (λ (i : ℕ). rowAt (rowsAt i)) who sound move t u target k since unmarked marked (save .has-key)
+      lacks-since-marked (tablesOf rowsAt) who sound move t u target k since unmarked marked (save .has-key)
 
   -- The outermost help of del, which is marked, returns to its caller.
   returns-tell : (k e prev del right : ℕ) (caller : HelpCaller) → markOf (rowAt (rowsAt u)) del ≡ true
-      → AllHold top me (rowAt (rowsAt u)) (helpCallerFacts k e del caller) → helpCallerPast (λ (i : ℕ). rowAt (rowsAt i)) t u k caller
+      → AllHold top me (rowAt (rowsAt u)) (helpCallerFacts k e del caller) → helpCallerPast (tablesOf rowsAt) t u k caller
       → Tells me rowsAt t u (helpOperation k e caller) (removedInHelp caller)
       (goWriting (helpMarked-2 (rowsAt u) prev del right) (helpFlaggedReturns (rowsAt u) k e caller))
   unfolding helpFlaggedReturns delete-7 helpMarked-2
@@ -56,19 +56,19 @@ module _ (top : ℕ) (rowsAt : ℕ → List Row) (who : ℕ → ℕ) (sound : (i
     linking = inl (cas-links-none (rowsAt u) prev _ _);
   }
   returns-tell k e prev del right (Delete6 target true) marked (same, (save, _)) past = record {
-    next = record {
+    next = is-removed (record {
       some-row = λ e. omega (arith, save .no-end);
       marked = ap (markOf (rowAt (rowsAt u))) (sym same) ∙ marked;
       has-element = refl;
-    };
+    });
     linking = inl (cas-links-none (rowsAt u) prev _ _);
   }
   returns-tell k e prev del right (Delete6 target false) marked (same, (save, _)) past = record {
-    next = (refl, target-gone k target save (ap (markOf (rowAt (rowsAt u))) (sym same) ∙ marked) past);
+    next = none-removed refl (target-gone k target save (ap (markOf (rowAt (rowsAt u))) (sym same) ∙ marked) past);
     linking = inl (cas-links-none (rowsAt u) prev _ _);
   }
 
-  module _ (f : HelpFrame) (past : helpCallerPast (λ (i : ℕ). rowAt (rowsAt i)) t u (f .key) (f .caller)) where
+  module _ (f : HelpFrame) (past : helpCallerPast (tablesOf rowsAt) t u (f .key) (f .caller)) where
     abbrev TellsHelp : Effect → Type 0
     TellsHelp e = Tells me rowsAt t u (helpOperation (f .key) (f .element) (f .caller)) (removedInHelp (f .caller)) e
 
@@ -84,7 +84,8 @@ module _ (top : ℕ) (rowsAt : ℕ → List Row) (who : ℕ → ℕ) (sound : (i
     helpMarked-2-tells count last hs right (nothing-pending none empty) known =
         rw (eq-eqb count 0 none)
         ((subst (λ (s : List Pending). AllHold top me (rowAt (rowsAt u)) (facts (Help (HelpMarked2 right) f) s)
-        → TellsHelp (goWriting (helpMarked-2 (rowsAt u) (f .prev) (f .del) right) (helpFlaggedReturns (rowsAt u) (f .key) (f .element) (f .caller))))
+        → TellsHelp (goWriting (helpMarked-2 (rowsAt u) (f .prev) (f .del) right)
+        (helpFlaggedReturns (rowsAt u) (f .key) (f .element) (f .caller))))
         (sym empty)
         (λ (fits, (helping, (frozen, rest))).
         returns-tell (f .key) (f .element) (f .prev) (f .del) right (f .caller) (frozen .mark-set) rest past))

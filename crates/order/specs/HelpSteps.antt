@@ -1,26 +1,26 @@
 -- The lines inside HelpFlagged are lawful: the backlink, the mark and the swing are moves, and a pending help is one that has to be given.
 use Prim.Native.Nat.{ℕ, suc, _<_}
 use mathlib.Core.Bool.{true, false}
-use mathlib.Core.Path.{_≡_, refl, ap, sym, _∙_, subst}
-use mathlib.Core.Logic.{_≢_}
+use mathlib.Core.Path.{refl, ap, sym, _∙_, subst}
 use mathlib.Core.List.{List, [], _∷_}
 use native.Mathlib.Omega.{arith}
-use lib.Dec.{eqb}
 use borrow.Author.Tests.{eq-eqb, ne-eqb}
-use Rattle.order.specs.Basics.{clash}
 use Rattle.order.specs.Structure.{Structure, flagged-for}
 use Rattle.order.specs.StructureFacts.{help-del-linked}
 use Rattle.order.specs.Moves.{BacklinkMove}
 use Rattle.order.specs.Stack.{Newest, nothing-pending, pending}
 use Rattle.order.specs.Facts.{Helping, Frozen, AllHold, facts, helpCallerFacts, pendingFacts}
 use Rattle.order.specs.StableFacts.{help-survives, facts-survive}
-use Rattle.order.specs.Tests.{same-succ, flagged-only}
-use Rattle.order.specs.Writes.{one-written, linked-inside, mark-written, backlink-written}
+use Rattle.order.specs.Writes.{one-written, mark-written, backlink-written}
 use Rattle.order.specs.Lawful.{Lawful, removedInHelp, goes-on, SharedMove, chained, read, read-stacking, shared, mark-shared, backlink-shared}
 use Rattle.order.specs.HelpMarkedSteps.{help-marked-lawful, help-ends-lawful}
-use Rattle.model.specs.State.{if_then_else_, rowAt, succOf}
+use Rattle.order.specs.LineConditions.{same-succ, flagged-only}
+use Rattle.order.specs.Table.{Table}
+use Rattle.kept.specs.Conditions.{clash}
+use Rattle.kept.specs.Standing.{linked-inside}
+use Rattle.model.specs.State.{rowAt, succOf}
 use Rattle.model.specs.Choices.{if-known}
-use Rattle.model.specs.Cas.{sameSucc, flaggedOnly, succAt, withSucc, cas}
+use Rattle.model.specs.Cas.{sameSucc, flaggedOnly, succAt, cas}
 use Rattle.model.specs.Effects.{goWriting, callHelpFlagged}
 use Rattle.model.specs.Delete.{delete-7}
 use Rattle.model.specs.HelpMarked.{helpMarked-1, helpMarked-2}
@@ -64,10 +64,14 @@ module _ (top me : ℕ) (rows : List Row) (sound : Structure top (rowAt rows)) w
       pushable = tt;
     }
       where
-        m : BacklinkMove (rowAt rows) (rowAt (written rows (OneRow (f .del) (withBacklink (rowAt rows (f .del)) (f .prev))))) (f .prev) (f .del)
-        m = backlink-written help (one-written rows (f .del) _ (linked-inside rows (f .del) (help-del-linked sound (f .prev) (f .del) help)))
+        after : Table
+        after = rowAt (written rows (OneRow (f .del) (withBacklink (rowAt rows (f .del)) (f .prev))))
 
-        s : SharedMove top me (rowAt rows) (rowAt (written rows (OneRow (f .del) (withBacklink (rowAt rows (f .del)) (f .prev)))))
+        m : BacklinkMove (rowAt rows) after (f .prev) (f .del)
+        m = backlink-written help
+            (one-written rows (f .del) _ (linked-inside rows (f .del) (help-del-linked sound (f .prev) (f .del) help)))
+
+        s : SharedMove top me (rowAt rows) after
         s = backlink-shared me sound m
 
     -- HelpFlagged, lines 2 to 4.
@@ -84,7 +88,8 @@ module _ (top me : ℕ) (rows : List Row) (sound : Structure top (rowAt rows)) w
     tryMark-2-lawful known = read top me rows _ _ hs _ refl refl known
 
     -- TryMark, lines 3 to 5.
-    pub tryMark-3-lawful : (right : ℕ) → AllHold top me (rowAt rows) (facts (Help (TryMark3 right) f) hs) → LawfulHelp f hs (tryMark-3 rows f right)
+    pub tryMark-3-lawful : (right : ℕ) → AllHold top me (rowAt rows) (facts (Help (TryMark3 right) f) hs)
+        → LawfulHelp f hs (tryMark-3 rows f right)
     unfolding tryMark-3 cas heldRow
     tryMark-3-lawful right (fits, (helping, rest)) =
         if-known (LawfulHelp f hs) (flaggedOnly (succAt rows (f .del)))
@@ -126,9 +131,11 @@ module _ (top me : ℕ) (rows : List Row) (sound : Structure top (rowAt rows)) w
         read top me rows _ _ hs _ refl refl (fits, (helping, (record { mark-set = marked; right-is = refl }, rest)))
 
   -- The outermost help returns to its caller. A delete that set the flag has removed its row.
-  returns-lawful : (key element prev del right : ℕ) (caller : HelpCaller) → suc key < top → Helping (rowAt rows) prev del → Frozen (rowAt rows) del right
+  returns-lawful : (key element prev del right : ℕ) (caller : HelpCaller) → suc key < top → Helping (rowAt rows) prev del
+      → Frozen (rowAt rows) del right
       → AllHold top me (rowAt rows) (helpCallerFacts key element del caller)
-      → Lawful top me rows (heldInHelp caller) (removedInHelp caller) [] (goWriting (helpMarked-2 rows prev del right) (helpFlaggedReturns rows key element caller))
+      → Lawful top me rows (heldInHelp caller) (removedInHelp caller) []
+      (goWriting (helpMarked-2 rows prev del right) (helpFlaggedReturns rows key element caller))
   unfolding helpFlaggedReturns delete-7 heldRow
   returns-lawful key element prev del right (Insert8 row new) fits helping frozen (low, (holding, _)) =
       help-marked-lawful top me rows sound _ _ [] prev del right frozen _ Keep tt refl
@@ -141,15 +148,18 @@ module _ (top me : ℕ) (rows : List Row) (sound : Structure top (rowAt rows)) w
       help-marked-lawful top me rows sound _ _ [] prev del right frozen _ Keep tt refl tt refl
 
   -- HelpFlagged, line 4: the second access of its HelpMarked, and the return.
-  pub helpFlagged-4-helpMarked-2-lawful : (f : HelpFrame) (count : ℕ) (last : Pending) (hs : List Pending) (right : ℕ) → Newest count last hs
-      → AllHold top me (rowAt rows) (facts (Help (HelpMarked2 right) f) hs) → LawfulHelp f hs (helpFlagged-4-helpMarked-2 rows count last f right)
+  pub helpFlagged-4-helpMarked-2-lawful : (f : HelpFrame) (count : ℕ) (last : Pending) (hs : List Pending) (right : ℕ)
+      → Newest count last hs
+      → AllHold top me (rowAt rows) (facts (Help (HelpMarked2 right) f) hs)
+      → LawfulHelp f hs (helpFlagged-4-helpMarked-2 rows count last f right)
   unfolding helpFlagged-4-helpMarked-2 heldRow
   helpFlagged-4-helpMarked-2-lawful f count last hs right (nothing-pending none empty) known =
       rw (eq-eqb count 0 none)
       (subst (λ (s : List Pending). AllHold top me (rowAt rows) (facts (Help (HelpMarked2 right) f) s)
       → LawfulHelp f s (goWriting (helpMarked-2 rows (f .prev) (f .del) right) (helpFlaggedReturns rows (f .key) (f .element) (f .caller))))
       (sym empty)
-      (λ (fits, (helping, (frozen, rest))). returns-lawful (f .key) (f .element) (f .prev) (f .del) right (f .caller) fits helping frozen rest)
+      (λ (fits, (helping, (frozen, rest))).
+      returns-lawful (f .key) (f .element) (f .prev) (f .del) right (f .caller) fits helping frozen rest)
       known)
   helpFlagged-4-helpMarked-2-lawful f count last hs right (pending {rest = rest} some newest) known =
       rw (ne-eqb count 0 some)

@@ -8,17 +8,17 @@ use mathlib.Core.List.{List}
 use native.Mathlib.Omega.{arith}
 use lib.Dec.{ltb}
 use lib.ListN.{set}
-use Rattle.order.specs.Basics.{held-linked, free-linked}
-use Rattle.order.specs.Table.{markOf, rankOf}
+use Rattle.order.specs.Table.{markOf, rankOf, tablesOf}
 use Rattle.order.specs.Structure.{Structure}
 use Rattle.order.specs.StructureFacts.{tail-rank}
 use Rattle.order.specs.Moves.{Move}
 use Rattle.order.specs.Facts.{AtMost, AllHold, facts}
-use Rattle.order.specs.Tests.{has-key}
 use Rattle.order.specs.Timeline.{RegularWithin, HasWithin, marked-within, has-within}
-use Rattle.order.specs.Writes.{two-written, linked-inside, held-inside}
+use Rattle.order.specs.Writes.{two-written}
 use Rattle.order.specs.PlainMap.{insert}
-use Rattle.order.specs.Memory.{Tells, LinksRow}
+use Rattle.order.specs.Memory.{Tells, LinksRow, is-duplicate, no-row-free, is-added}
+use Rattle.order.specs.LineConditions.{has-key}
+use Rattle.kept.specs.Standing.{held-not-linked, free-not-linked, linked-inside, held-inside}
 use Rattle.model.specs.State.{rowAt, succOf}
 use Rattle.model.specs.Choices.{if-both, if-known}
 use Rattle.model.specs.Order.{hasKey}
@@ -42,28 +42,29 @@ low-not-tail top rows x bound k fits small low e = omega (arith, low .low, ap (r
 module _ (top : ℕ) (rowsAt : ℕ → List Row) (who : ℕ → ℕ) (sound : (i : ℕ) → Structure top (rowAt (rowsAt i)))
     (move : (i : ℕ) → Move top (who i) (rowAt (rowsAt i)) (rowAt (rowsAt (suc i)))) (t u : ℕ) (since : t ≤ u) (me : ℕ) where
   -- curr has the key: the key had its element when curr was regular
-  pub had-key : (k x n : ℕ) → suc k < top → RegularWithin (λ (i : ℕ). rowAt (rowsAt i)) t u x n → hasKey (rowsAt u) x k ≡ true
-      → HasWithin (λ (i : ℕ). rowAt (rowsAt i)) t u k (rowAt (rowsAt u) x .element)
+  pub had-key : (k x n : ℕ) → suc k < top → RegularWithin (tablesOf rowsAt) t u x n → hasKey (rowsAt u) x k ≡ true
+      → HasWithin (tablesOf rowsAt) t u k (rowAt (rowsAt u) x .element)
   had-key k x n fits was same =
       let found = has-key top (rowsAt u) x k fits .if-true same in
-      has-within (λ (i : ℕ). rowAt (rowsAt i)) who sound move t u x n k was (found .no-end) (found .the-key)
+      has-within (tablesOf rowsAt) who sound move t u x n k was (found .no-end) (found .the-key)
 
   -- Lines 2 and 3.
   pub insert-2-tells : (k e prev next : ℕ) → suc k < top → markOf (rowAt (rowsAt t)) prev ≡ false
-      → RegularWithin (λ (i : ℕ). rowAt (rowsAt i)) t u prev next → Tells me rowsAt t u (insert k e) 0 (insert-2 (rowsAt u) k e prev next)
+      → RegularWithin (tablesOf rowsAt) t u prev next → Tells me rowsAt t u (insert k e) 0 (insert-2 (rowsAt u) k e prev next)
   unfolding insert-2
   insert-2-tells k e prev next fits unmarked was =
       if-known (Tells me rowsAt t u (insert k e) 0) (hasKey (rowsAt u) prev k)
-      (λ same. record { next = (_, had-key k prev next fits was same); linking = inl tt })
+      (λ same. record { next = is-duplicate (had-key k prev next fits was same); linking = inl tt })
       (λ _. record { next = record { operation-same = refl; past = unmarked; removed-same = inl refl }; linking = inl tt })
 
   -- Lines 20 to 22.
   pub insert-20-tells : (k e prev next new : ℕ) → suc k < top → markOf (rowAt (rowsAt t)) prev ≡ false
-      → RegularWithin (λ (i : ℕ). rowAt (rowsAt i)) t u prev next → Tells me rowsAt t u (insert k e) 0 (insert-20 (rowsAt u) k e prev next new)
+      → RegularWithin (tablesOf rowsAt) t u prev next
+      → Tells me rowsAt t u (insert k e) 0 (insert-20 (rowsAt u) k e prev next new)
   unfolding insert-20
   insert-20-tells k e prev next new fits unmarked was =
       if-known (Tells me rowsAt t u (insert k e) 0) (hasKey (rowsAt u) prev k)
-      (λ same. record { next = (_, had-key k prev next fits was same); linking = inl (λ h. absurd (free-linked refl h)) })
+      (λ same. record { next = is-duplicate (had-key k prev next fits was same); linking = inl (λ h. absurd (free-not-linked refl h)) })
       (λ _. record { next = record { operation-same = refl; past = unmarked; removed-same = inl refl }; linking = inl tt })
 
   module _ (hs : List Pending) (f : InsertFrame) (unmarked : markOf (rowAt (rowsAt t)) (f .prev) ≡ false) where
@@ -74,9 +75,9 @@ module _ (top : ℕ) (rowsAt : ℕ → List Row) (who : ℕ → ℕ) (sound : (i
         if-both (Tells me rowsAt t u (insert (f .key) (f .element)) 0) (ltb (lowestFree (rowsAt u)) 128)
         (record {
           next = record { operation-same = refl; past = unmarked; removed-same = inl refl };
-          linking = inl (λ h. absurd (held-linked refl h));
+          linking = inl (λ h. absurd (held-not-linked refl h));
         })
-        (record { next = tt; linking = inl tt })
+        (record { next = no-row-free; linking = inl tt })
 
     -- Line 6.
     insert-6-tells : (next new : ℕ) → Tells me rowsAt t u (insert (f .key) (f .element)) 0 (insert-6 (rowsAt u) f next new)
@@ -93,7 +94,7 @@ module _ (top : ℕ) (rowsAt : ℕ → List Row) (who : ℕ → ℕ) (sound : (i
     insert-10-11-tells next new (fits, (alone, (low, (high, (holding, _))))) =
         if-both (Tells me rowsAt t u (insert (f .key) (f .element)) 0)
         (sameSucc (succAt (set (rowsAt u) new stored) (f .prev)) (succOf next false false))
-        (record { next = linked; linking = inr refl })
+        (record { next = is-added linked; linking = inr refl })
         (if-both (λ (l : Line). Tells me rowsAt t u (insert (f .key) (f .element)) 0 (goWriting (OneRow new stored) l))
         (flaggedOnly (succAt (set (rowsAt u) new stored) (f .prev)))
         (record { next = record { operation-same = refl; past = unmarked; removed-same = inl refl }; linking = inl (λ h. h) })
@@ -103,7 +104,7 @@ module _ (top : ℕ) (rowsAt : ℕ → List Row) (who : ℕ → ℕ) (sound : (i
         stored = withSucc (rowAt (rowsAt u) new) (succOf next false false)
 
         differ : new ≢ f .prev
-        differ e = held-linked (holding .held) (cc (low .linked))
+        differ e = held-not-linked (holding .held) (cc (low .linked))
 
         linked : LinksRow me (rowAt (rowsAt u))
             (rowAt (written (rowsAt u) (TwoRows new (linkedRow stored) (f .prev)
@@ -134,7 +135,7 @@ module _ (top : ℕ) (rowsAt : ℕ → List Row) (who : ℕ → ℕ) (sound : (i
     insert-18-tells new marked = record {
       next = record {
         operation-same = refl;
-        past = marked-within (λ (i : ℕ). rowAt (rowsAt i)) who sound move t u (f .prev) since unmarked marked .back-unmarked;
+        past = marked-within (tablesOf rowsAt) who sound move t u (f .prev) since unmarked marked .back-unmarked;
         removed-same = inl refl;
       };
       linking = inl tt;

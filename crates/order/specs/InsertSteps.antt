@@ -1,7 +1,7 @@
 -- Insert's lines are lawful: each is a move or a read, and leaves the facts of the next line.
-use Prim.Native.Nat.{ℕ, suc, _≤_, _<_}
-use mathlib.Core.Bool.{Bool, true, false}
-use mathlib.Core.Path.{_≡_, refl, ap, sym, _∙_, subst}
+use Prim.Native.Nat.{ℕ, suc, _<_}
+use mathlib.Core.Bool.{true, false}
+use mathlib.Core.Path.{_≡_, refl, ap, sym, _∙_}
 use mathlib.Core.Logic.{_≢_, _⊎_, inl, inr}
 use mathlib.Core.List.{List, []}
 use native.Mathlib.Omega.{arith}
@@ -10,32 +10,30 @@ use lib.ListN.{length, set}
 use lib.Seq.{getD-set-other}
 use borrow.Author.Tests.{ltb-true}
 use lib.Dec.{ltb}
-use Rattle.order.specs.Basics.{clash, held-linked, free-linked}
-use Rattle.order.specs.Table.{Table, rightOf, markOf, flagOf, backOf, standingOf, rank, rankOf, IsLinked}
+use Rattle.order.specs.Table.{Table, markOf, backOf, standingOf, rankOf}
 use Rattle.order.specs.Structure.{Structure, flagged-for}
 use Rattle.order.specs.StructureFacts.{save-rank, marked-not-head, tail-rank}
 use Rattle.order.specs.Moves.{Move, links, private, LinkMove, PrivateMove}
-use Rattle.order.specs.Stack.{stackAfter}
-use Rattle.order.specs.Facts.{Fact, at-most, above, AtMost, Above, Holding, AllHold, facts, called-alone}
+use Rattle.order.specs.Facts.{AtMost, Above, Holding, AllHold, facts, called-alone}
 use Rattle.order.specs.StableFacts.{at-most-survives, above-survives, help-survives}
-use Rattle.order.specs.Tests.{has-key, same-succ, flagged-only}
-use Rattle.order.specs.FreeRows.{LowestFree, found, none, lowest-free}
-use Rattle.order.specs.Writes.{OneWritten, TwoWritten, one-written, two-written, linked-inside, held-inside, private-written, link-written}
-use Rattle.order.specs.Lawful.{Lawful, removedRow, NoNewFlag, Removal, goes-on, read, private-no-new-flag}
+use Rattle.order.specs.Writes.{OneWritten, TwoWritten, one-written, two-written, private-written, link-written}
+use Rattle.order.specs.Lawful.{Lawful, removedRow, goes-on, read, private-no-new-flag}
+use Rattle.order.specs.LineConditions.{has-key, same-succ, flagged-only}
+use Rattle.kept.specs.Conditions.{contradiction}
+use Rattle.kept.specs.Standing.{held-not-linked, linked-inside, held-inside}
+use Rattle.kept.specs.FreeRows.{lowest-is-free}
 use Rattle.model.specs.State.{rowAt, freeRow, succOf}
-use Rattle.model.specs.Choices.{if-both, if-known}
+use Rattle.model.specs.Choices.{if-known}
 use Rattle.model.specs.Order.{hasKey}
 use Rattle.model.specs.Cas.{sameSucc, flaggedOnly, succAt, withSucc}
 use Rattle.model.specs.Effects.{goWriting}
-use Rattle.model.specs.Insert.{insertFrame, insert-2, insert-20, lowestFree, insert-4, insert-6, insert-15, insert-10-11, linkedRow, insert-17, insert-18, insertLine}
+use Rattle.model.specs.Insert.{insert-2, insert-20, lowestFree, insert-4, insert-6, insert-15, insert-10-11, linkedRow, insert-17, insert-18, insertLine}
 use Rattle.model.specs.Step.{written}
 use Rattle.model.specs.WellFormed.{heldRow, heldInInsert, noRowHeld}
 use Rattle.model.specs.declared.Row.{Row}
-use Rattle.model.specs.declared.Succ.{Succ}
 use Rattle.model.specs.declared.Pending.{Pending}
-use Rattle.model.specs.declared.Standing.the-variants.{Free, Held, Linked}
+use Rattle.model.specs.declared.Standing.the-variants.{Free, Held}
 use Rattle.model.specs.declared.Answer.the-variants.{Added, Duplicate}
-use Rattle.model.specs.declared.Effect.{Effect}
 use Rattle.model.specs.declared.Write.the-variants.{OneRow, TwoRows}
 use Rattle.model.specs.declared.HelpCaller.the-variants.{Insert8, Insert16}
 use Rattle.model.specs.declared.InsertFrame.{InsertFrame}
@@ -54,14 +52,17 @@ module _ (top me : ℕ) (rows : List Row) (sound : Structure top (rowAt rows)) (
   -- a held row is a save
   held-rank : (new k e : ℕ) → Holding me (rowAt rows) new k e → rankOf top (rowAt rows) new ≡ suc k
   held-rank new k e h =
-      save-rank top new (rowAt rows new .key) (λ q. held-linked (h .held) (cc (sound .head .linked))) (λ q. held-linked (h .held) (cc (sound .tail .linked)))
+      save-rank top new (rowAt rows new .key)
+      (λ q. held-not-linked (h .held) (cc (sound .head .linked)))
+      (λ q. held-not-linked (h .held) (cc (sound .tail .linked)))
       ∙ ap suc (h .has-key)
 
   pub not-tail : (x k : ℕ) → suc k < top → AtMost top (rowAt rows) x k → x ≢ 1
   not-tail x k fits h e = omega (arith, h .low, ap (rankOf top (rowAt rows)) e, tail-rank top (rowAt rows))
 
   -- Lines 2 and 3.
-  pub insert-2-lawful : (k e prev next : ℕ) → suc k < top → hs ≡ [] → AtMost top (rowAt rows) prev (suc k) → Above top (rowAt rows) next (suc k)
+  pub insert-2-lawful : (k e prev next : ℕ) → suc k < top → hs ≡ [] → AtMost top (rowAt rows) prev (suc k)
+      → Above top (rowAt rows) next (suc k)
       → Lawful top me rows noRowHeld 0 hs (insert-2 rows k e prev next)
   unfolding insert-2 heldRow
   insert-2-lawful k e prev next fits alone low high =
@@ -107,7 +108,7 @@ module _ (top me : ℕ) (rows : List Row) (sound : Structure top (rowAt rows)) (
   insert-20-lawful k e prev next new fits alone low high holding =
       if-known (Lawful top me rows new 0 hs) (hasKey rows prev k)
       (λ _. privately new new freeRow (Idle Duplicate) (inr (holding .held)) (inl refl) refl refl (held-inside rows new me (holding .held))
-      (λ h. let z : _≡_ {A = ℕ} 0 1 = cc in absurd (omega arith))
+      (λ h. contradiction (cc))
       (λ x e h same. absurd (e (sym same)))
       refl (λ put m. tt))
       (λ no-key. read top me rows new 0 hs _ refl refl (fits, (alone, (lower prev k fits low no-key, (high, (holding, tt))))))
@@ -118,15 +119,14 @@ module _ (top me : ℕ) (rows : List Row) (sound : Structure top (rowAt rows)) (
   unfolding insert-4 heldRow
   insert-4-lawful f next size (fits, (alone, (low, (high, _)))) =
       if-known (Lawful top me rows noRowHeld 0 hs) (ltb (lowestFree rows) 128)
-      (λ some-free. taken (lowest-free rows) (ltb-true _ _ some-free))
+      (λ some-free. taken (lowest-is-free rows some-free) (ltb-true _ _ some-free))
       (λ _. read top me rows noRowHeld 0 hs _ refl refl tt)
     where
-      taken : LowestFree rows 2 128 (lowestFree rows) → lowestFree rows < 128
-          → Lawful top me rows noRowHeld 0 hs (goWriting
-          (OneRow (lowestFree rows) (record { key = f .key; element = f .element; backlink = 0; succ = succOf 0 false false; standing = Held me }))
-          (Insert (Insert6 next (lowestFree rows)) f))
-      taken (none e rest) small = absurd (omega arith)
-      taken (found free first last rest) small =
+      taken : standingOf (rowAt rows) (lowestFree rows) ≡ Free → lowestFree rows < 128
+          → let row : Row =
+          record { key = f .key; element = f .element; backlink = 0; succ = succOf 0 false false; standing = Held me } in
+          Lawful top me rows noRowHeld 0 hs (goWriting (OneRow (lowestFree rows) row) (Insert (Insert6 next (lowestFree rows)) f))
+      taken free small =
           privately noRowHeld (lowestFree rows) _ (Insert (Insert6 next (lowestFree rows)) f) (inl free) (inr refl) refl refl (omega arith)
           (λ _. refl)
           (λ x e h same. absurd (omega (arith, same, held-inside rows x me h)))
@@ -177,13 +177,16 @@ module _ (top me : ℕ) (rows : List Row) (sound : Structure top (rowAt rows)) (
   insert-10-11-lawful f next new (fits, (alone, (low, (high, (holding, _))))) =
       if-known (Lawful top me rows new 0 hs) (sameSucc (succAt (set rows new stored) prev) (succOf next false false))
       (λ same. linked-in (sym (ap (λ (r : Row). r .succ) (unstored stored)) ∙ same-succ _ _ same))
-      (λ _. if-known (λ (line : Line). Lawful top me rows new 0 hs (goWriting (OneRow new stored) line)) (flaggedOnly (succAt (set rows new stored) prev))
+      (λ _.
+      if-known (λ (line : Line). Lawful top me rows new 0 hs (goWriting (OneRow new stored) line))
+      (flaggedOnly (succAt (set rows new stored) prev))
       (λ flagged. prepared _ refl refl (λ put m. (
         fits,
         (
           help-survives sound m prev _ (flagged-for (ap (λ (r : Row). r .succ .flag) (sym (unstored stored)) ∙ flagged-only _ flagged)
               (ap (λ (r : Row). r .succ .right) (sym (unstored stored)))),
-          called-alone top me _ (f .key) (f .element) (Insert16 prev new) hs prev _ alone (at-most-survives sound m prev (f .key) low, (still-holding put, tt)),
+          called-alone top me _ (f .key) (f .element) (Insert16 prev new) hs prev _ alone
+              (at-most-survives sound m prev (f .key) low, (still-holding put, tt)),
         ),
       )))
       (λ _. prepared _ refl refl (λ put m. (fits, (alone, (at-most-survives sound m prev (f .key) low, (still-holding put, tt)))))))
@@ -196,7 +199,7 @@ module _ (top me : ℕ) (rows : List Row) (sound : Structure top (rowAt rows)) (
 
       -- prev is linked and new is held: the store of line 10 is not seen by the C&S of line 11
       differ : prev ≢ new
-      differ e = held-linked (holding .held) (cc (low .linked))
+      differ e = held-not-linked (holding .held) (cc (low .linked))
 
       unstored : (r : Row) → rowAt (set rows new r) prev ≡ rowAt rows prev
       unstored r = getD-set-other rows new prev r freeRow differ
@@ -228,7 +231,7 @@ module _ (top me : ℕ) (rows : List Row) (sound : Structure top (rowAt rows)) (
         move = links m;
         known = tt;
         named = λ x named h. elim (ℕ-discrete x new) [
-          | yes e ↦ absurd (held-linked h (ap (λ (y : ℕ). standingOf R' y) e ∙ m .new-linked))
+          | yes e ↦ absurd (held-not-linked h (ap (λ (y : ℕ). standingOf R' y) e ∙ m .new-linked))
           | no e ↦ absurd (e (sym (named (sym (m .standing-other x e) ∙ h))))
         ];
         removal = goes-on refl (λ x h. sym (m .flag= x) ∙ h);
@@ -245,7 +248,8 @@ module _ (top me : ℕ) (rows : List Row) (sound : Structure top (rowAt rows)) (
           R' = rowAt (written rows (TwoRows new linked-row prev (withSucc before-swing (succOf new false false))))
 
           put : TwoWritten (rowAt rows) R' new linked-row prev (withSucc before-swing (succOf new false false))
-          put = two-written rows new linked-row prev _ (held-inside rows new me (holding .held)) (linked-inside rows prev (low .linked)) (λ e. differ (sym e))
+          put = two-written rows new linked-row prev _ (held-inside rows new me (holding .held))
+              (linked-inside rows prev (low .linked)) (λ e. differ (sym e))
 
           new-rank : rankOf top (rowAt rows) new ≡ suc (f .key)
           new-rank = held-rank new (f .key) (f .element) holding

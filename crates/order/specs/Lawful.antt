@@ -1,19 +1,19 @@
 -- What is asked of the effect of a line, and the common ways to show it: the rows change by a move, the facts of the next line hold, the
 -- worker names the row that it holds, and it removes the row that it removed before, claims one by a flag, or has removed it.
-use Prim.Native.Nat.{ℕ, suc, _<_}
+use Prim.Native.Nat.{ℕ}
 use mathlib.Core.Bool.{Bool, true, false}
-use mathlib.Core.Path.{_≡_, refl, ap, sym, _∙_}
+use mathlib.Core.Path.{_≡_, refl, sym, _∙_}
 use mathlib.Core.Logic.{_≢_}
 use mathlib.Core.List.{List, [], _∷_}
-use native.Mathlib.Decide.{ℕ-discrete}
-use Rattle.order.specs.Basics.{clash}
 use Rattle.order.specs.Table.{Table, rightOf, flagOf, standingOf}
 use Rattle.order.specs.Structure.{Structure}
-use Rattle.order.specs.Moves.{Move, nothing, marks, unlinks, backlinks, private, MarkMove, UnlinkMove, FlagMove, BacklinkMove, PrivateMove, SameStanding}
+use Rattle.order.specs.Moves.{Move, nothing, marks, unlinks, backlinks, MarkMove, UnlinkMove, FlagMove, BacklinkMove, PrivateMove, SameStanding}
 use Rattle.order.specs.Stack.{stackAfter}
 use Rattle.order.specs.Facts.{Helping, AllHold, pendingFacts, facts}
 use Rattle.order.specs.StableFacts.{LeavesHeld, held-unchanged, facts-survive}
-use Rattle.model.specs.State.{if_then_else_, rowAt}
+use Rattle.kept.specs.Conditions.{clash}
+use Rattle.kept.specs.IdleLine.{if-idle}
+use Rattle.model.specs.State.{if_then_else_, rowAt, idle}
 use Rattle.model.specs.Effects.{go}
 use Rattle.model.specs.Step.{written}
 use Rattle.model.specs.WellFormed.{heldRow}
@@ -52,6 +52,9 @@ removedRow (Search l f) = noRowRemoved
 removedRow (Insert l f) = noRowRemoved
 removedRow (Flag l f) = noRowRemoved
 removedRow (Help l f) = removedInHelp (f .caller)
+
+pub idle-removes-none : (l : Line) → idle l ≡ true → removedRow l ≡ noRowRemoved
+idle-removes-none = if-idle (λ l. removedRow l ≡ noRowRemoved) (λ a. refl)
 
 abbrev pub NoNewFlag : Table → Table → Type 0
 NoNewFlag R R' = (x : ℕ) → flagOf R' x ≡ true → flagOf R x ≡ true
@@ -98,7 +101,8 @@ with-removal l removal = record { move = l .move; known = l .known; named = l .n
 
 -- ---- A read ----
 
-pub read-stacking : (top me : ℕ) (rows : List Row) (held removed : ℕ) (hs : List Pending) (line : Line) (s : Stack) → Pushable (rowAt rows) hs s
+pub read-stacking : (top me : ℕ) (rows : List Row) (held removed : ℕ) (hs : List Pending) (line : Line) (s : Stack)
+    → Pushable (rowAt rows) hs s
     → heldRow line ≡ held → removedRow line ≡ removed → AllHold top me (rowAt rows) (facts line (stackAfter hs s))
     → Lawful top me rows held removed hs (record { line = line; write = NoRow; stack = s })
 unfolding written

@@ -131,7 +131,8 @@ module _ (top w : ℕ) (R : Table) where
 
   -- ---- TryFlag's target ----
 
-  pub target-known : {l : Line} {target key : ℕ} (hs : List Pending) → Targets l target key → AllHold top w R (facts l hs) → SaveOf R target key
+  pub target-known : {l : Line} {target key : ℕ} (hs : List Pending) → Targets l target key → AllHold top w R (facts l hs)
+      → SaveOf R target key
   target-known hs in-flag (_, (_, (_, (save, _)))) = save
   target-known hs (in-search {l = l} {f = f} {target = target} caller) (_, (_, (_, known))) =
       let of-caller = search-caller-known l (f .curr) (searchCallerFacts (f .key) (f .element) (f .caller)) known in

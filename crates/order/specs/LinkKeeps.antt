@@ -9,9 +9,11 @@ use native.Mathlib.Decide.{ℕ-discrete}
 use Rattle.order.specs.Table.{Table, rightOf, markOf, flagOf, backOf, rank, rankOf, IsLinked, Regular}
 use Rattle.order.specs.Structure.{Structure}
 use Rattle.order.specs.Moves.{LinkMove}
-use Rattle.order.specs.Basics.{clash, held-linked, Compared, less, equal, more, compared}
 use Rattle.order.specs.StructureFacts.{unflagged-right-unmarked}
 use Rattle.order.specs.Unchanged.{same-rank}
+use Rattle.order.specs.Compared.{Compared, less, equal, more, compared}
+use Rattle.kept.specs.Conditions.{clash}
+use Rattle.kept.specs.Standing.{held-not-linked}
 
 module _ {top w : ℕ} {R R' : Table} {prev new next : ℕ} (sound : Structure top R) (move : LinkMove top w R R' prev new next) where
   -- the rows of R' as they are seen from R
@@ -27,7 +29,7 @@ module _ {top w : ℕ} {R R' : Table} {prev new next : ℕ} (sound : Structure t
   rank= = same-rank top R R' (move .key=)
 
   prev-not-new : prev ≢ new
-  prev-not-new e = held-linked (move .new-held) (cc (move .prev-regular .linked))
+  prev-not-new e = held-not-linked (move .new-held) (cc (move .prev-regular .linked))
 
   which : (x : ℕ) → Case x
   which x = go (ℕ-discrete x new) (ℕ-discrete x prev)
@@ -43,7 +45,7 @@ module _ {top w : ℕ} {R R' : Table} {prev new next : ℕ} (sound : Structure t
       go (no e) (no f) = let r = move .right-other x f e in is-other e f (rank= x) r (ap (rankOf top R') r ∙ rank= (rightOf R x))
 
   linked-after : (x : ℕ) → IsLinked R x → IsLinked R' x
-  linked-after x l = move .standing-other x (λ e. held-linked (move .new-held) (cc)) ∙ l
+  linked-after x l = move .standing-other x (λ e. held-not-linked (move .new-held) (cc)) ∙ l
 
   regular-after : (x : ℕ) → Regular R x → Regular R' x
   regular-after x l = record { linked = linked-after x (l .linked); unmarked = move .mark= x ∙ l .unmarked }

@@ -1,5 +1,6 @@
--- The lost-save schedule, P8 of document 01, as an instance: keys 10 and 30 are there; B inserts 20 for 5 steps; A deletes 10 for 7; B goes on
--- and is Added; A ends Removed. Whatever is called afterwards, if it deletes no save 20, every search of 20 finds it.
+-- The lost-save schedule, P8 of document 01, as an instance: keys 10 and 30 are there; B inserts 20 for 5 steps; A deletes 10 for 7; B
+-- goes on and is Added; A ends Removed. Whatever is called afterwards, as long as no delete of save 20 sets its flag, every search of 20
+-- finds it.
 use Prim.Native.Nat.{ℕ, zero, suc, _+_, _-_, _≤_, _<_}
 use mathlib.Core.Bool.{Bool, true, false, not, _&&_}
 use mathlib.Core.Path.{_≡_, refl, ap, sym, _∙_, subst}
@@ -10,13 +11,12 @@ use lib.Dec.{eqb}
 use lib.ListN.{length, getD, replicate, length-append, List·getD-append}
 use lib.Seq.{take-append-le, getD-append-add}
 use borrow.Author.Tests.{not-true}
-use Rattle.order.specs.Basics.{clash}
-use Rattle.order.specs.Tests.{and-true}
-use Rattle.order.specs.Demand.{stateAt, lineAt, Accepts, Request, Finished, DemandThree}
+use Rattle.order.specs.Demand.{stateAt, lineAt, Accepts, Request, Finished}
 use Rattle.order.specs.OneRequest.{any-default}
-use Rattle.order.specs.OrderTheorem.{demand-three}
-use Rattle.order.specs.SavesFound.{stored-save-found}
-use Rattle.model.specs.State.{workerAt, idle, emptyCatalogue}
+use Rattle.order.specs.SavesFound.{NoDeleteFlags, stored-save-found}
+use Rattle.kept.specs.Conditions.{clash, both}
+use Rattle.kept.specs.Ways.{lineOf}
+use Rattle.model.specs.State.{idle, emptyCatalogue}
 use Rattle.model.specs.Computed.{computed}
 use Rattle.model.specs.Run.{run}
 use Rattle.model.specs.declared.Catalogue.{Catalogue}
@@ -42,7 +42,7 @@ through-each : (p : ℕ → Bool) (i n : ℕ) → through p i n ≡ true → (j 
 unfolding through
 through-each p i zero h j low high = absurd (omega arith)
 through-each p i (suc n) h j low high =
-    let both = and-true (p i) (through p (suc i) n) h in
+    let both = both (p i) (through p (suc i) n) h in
     elim (ℕ-discrete j i) [
       | yes e ↦ ap p e ∙ both .0
       | no e ↦ through-each p (suc i) n (both .1) j (omega arith) (omega arith)
@@ -67,8 +67,8 @@ module _ (start : Catalogue) (xs ys : List Call) where
     later = x .later;
     step = accepts-still f (Step w) (x .step);
     busy = λ j low high.
-        subst (λ (c : Catalogue). idle (workerAt (c .workers) w .line) ≡ false) (sym (same-state j (omega (arith, x .step .inside)))) (x .busy j low high);
-    answered = subst (λ (c : Catalogue). workerAt (c .workers) w .line ≡ Idle a) (sym (same-state (suc f) (x .step .inside))) (x .answered);
+        subst (λ (c : Catalogue). idle (lineOf c w) ≡ false) (sym (same-state j (omega (arith, x .step .inside)))) (x .busy j low high);
+    answered = subst (λ (c : Catalogue). lineOf c w ≡ Idle a) (sym (same-state (suc f) (x .step .inside))) (x .answered);
   }
 
 -- ---- B's add ----
@@ -89,7 +89,19 @@ b-added = record {
   answered = refl;
 }
 
--- ---- No delete of 20 ----
+-- ---- The save is never lost ----
+
+-- B's add finishes at position 39.
+pub save-kept : (more : List Call) (q v x h : ℕ) (a : Answer) → Request emptyCatalogue (p8 ++ more) q v 1 20 x → length p8 ≤ q
+    → Finished emptyCatalogue (p8 ++ more) q v h a
+    → NoDeleteFlags emptyCatalogue (p8 ++ more) 20 39 h
+    → a ≡ Found 200
+save-kept more q v x h a asked later finished no-flags =
+    stored-save-found (p8 ++ more) 12 1 20 200 39 (accepts-still emptyCatalogue p8 more 12 _ b-adds)
+    (finished-still emptyCatalogue p8 more 12 1 39 Added b-added)
+    q v x h a asked (omega arith) finished no-flags
+
+-- ---- No delete of 20 at all ----
 
 abbrev deletesKey : ℕ → Call → Bool
 deletesKey k (Submit w code key element) = eqb code 3 && eqb key k
@@ -102,12 +114,8 @@ DeletesNone k calls = (i : ℕ) → i < length calls → deletesKey k (getD call
 p8-deletes-none : DeletesNone 20 p8
 unfolding through
 p8-deletes-none i inside =
-    not-true (deletesKey 20 (getD p8 i (Step 0))) (through-each (λ j. not (deletesKey 20 (getD p8 j (Step 0)))) 0 43 refl i (omega arith) (omega arith))
-
--- ---- The save is never lost ----
-
-pub p8-ordered : DemandThree p8
-p8-ordered = demand-three p8
+    not-true (deletesKey 20 (getD p8 i (Step 0)))
+    (through-each (λ j. not (deletesKey 20 (getD p8 j (Step 0)))) 0 43 refl i (omega arith) (omega arith))
 
 module _ (more : List Call) (harmless : DeletesNone 20 more) where
   none-deletes : (d v x : ℕ) → Request emptyCatalogue (p8 ++ more) d v 3 20 x → ⊥
@@ -124,8 +132,8 @@ module _ (more : List Call) (harmless : DeletesNone 20 more) where
           let same = ap (λ (i : ℕ). getD (p8 ++ more) i (Step 0)) (sym e) ∙ getD-append-add p8 more (d - length p8) (Step 0) in
           clash (ap (deletesKey 20) (sym same ∙ is)) (harmless (d - length p8) in-more)
 
-  pub save-kept : (q v x h : ℕ) (a : Answer) → Request emptyCatalogue (p8 ++ more) q v 1 20 x → length p8 ≤ q
+  -- none is deleted, so no delete of 20 sets a flag
+  pub save-kept-undeleted : (q v x h : ℕ) (a : Answer) → Request emptyCatalogue (p8 ++ more) q v 1 20 x → length p8 ≤ q
       → Finished emptyCatalogue (p8 ++ more) q v h a → a ≡ Found 200
-  save-kept q v x h a asked later finished =
-      stored-save-found (p8 ++ more) 12 1 20 200 39 (accepts-still emptyCatalogue p8 more 12 _ b-adds)
-      (finished-still emptyCatalogue p8 more 12 1 39 Added b-added) (λ d w y r. absurd (none-deletes d w y r)) q v x h a asked (omega arith) finished
+  save-kept-undeleted q v x h a asked later finished =
+      save-kept more q v x h a asked later finished (λ d w y i r sets low high. none-deletes d w y r)

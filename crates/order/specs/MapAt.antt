@@ -7,10 +7,9 @@ use mathlib.Core.Logic.{_⊎_, inl, inr}
 use mathlib.Core.List.{List}
 use native.Mathlib.Omega.{arith}
 use native.Mathlib.Decide.{ℕ-discrete}
-use Rattle.order.specs.Basics.{held-linked, free-linked}
 use Rattle.order.specs.Table.{Table, markOf, standingOf}
 use Rattle.order.specs.Moves.{Move, nothing, links, marks, unlinks, flags, backlinks, private, LinkMove, MarkMove}
-use Rattle.order.specs.Hindsight.{mark-of}
+use Rattle.order.specs.MarkOf.{mark-of}
 use Rattle.order.specs.MapMoves.{link-adds, mark-removes}
 use Rattle.order.specs.PlainMap.{PlainMap, insert, delete}
 use Rattle.order.specs.MapOfTable.{IsMapOf, map-has, map-lacks, adds-map, removes-map, mapAfterMove, map-after-move}
@@ -18,8 +17,8 @@ use Rattle.order.specs.ChainMap.{chainMap, chain-map-is-map}
 use Rattle.order.specs.Asking.{Agrees, added-agrees, removed-agrees, map-unique}
 use Rattle.order.specs.Memory.{LinksRow}
 use Rattle.order.specs.Demand.{stateAt}
-use Rattle.order.specs.Time.{Ready, sound-at, structure-at, move-at}
-use Rattle.model.specs.State.{rowAt}
+use Rattle.order.specs.Time.{Ready, sound-at, structure-at, move-at, TableAt}
+use Rattle.kept.specs.Standing.{held-not-linked, free-not-linked}
 use Rattle.model.specs.declared.Row.{Row}
 use Rattle.model.specs.declared.Standing.the-variants.{Free, Held, Linked}
 use Rattle.model.specs.declared.Answer.the-variants.{Added, Removed}
@@ -32,24 +31,25 @@ pub record LinkOf (top w : ℕ) (R R' : Table) (x : ℕ) : Type 0 where
   pub next : ℕ
   pub move : LinkMove top w R R' prev x next
 
-pub link-of : {top w v : ℕ} {R R' : Table} {x : ℕ} → Move top w R R' → standingOf R x ≡ Held v → standingOf R' x ≡ Linked → LinkOf top w R R' x
-link-of (nothing e) h k = absurd (held-linked h (cc))
+pub link-of : {top w v : ℕ} {R R' : Table} {x : ℕ} → Move top w R R' → standingOf R x ≡ Held v → standingOf R' x ≡ Linked
+    → LinkOf top w R R' x
+link-of (nothing e) h k = absurd (held-not-linked h (cc))
 link-of {top} {w} {R = R} {R' = R'} {x = x} (links {prev = prev} {new = new} {next = next} m) h k = elim (ℕ-discrete x new) [
   | yes e ↦ record { prev = prev; next = next; move = subst (λ (y : ℕ). LinkMove top w R R' prev y next) (sym e) m }
-  | no e ↦ absurd (held-linked h (sym (m .standing-other x e) ∙ k))
+  | no e ↦ absurd (held-not-linked h (sym (m .standing-other x e) ∙ k))
 ]
-link-of {x = x} (marks m) h k = absurd (held-linked h (sym (m .standing= x) ∙ k))
-link-of {x = x} (unlinks m) h k = absurd (held-linked h (sym (m .standing= x) ∙ k))
-link-of {x = x} (flags m) h k = absurd (held-linked h (sym (m .standing= x) ∙ k))
-link-of {x = x} (backlinks m) h k = absurd (held-linked h (sym (m .standing= x) ∙ k))
+link-of {x = x} (marks m) h k = absurd (held-not-linked h (sym (m .standing= x) ∙ k))
+link-of {x = x} (unlinks m) h k = absurd (held-not-linked h (sym (m .standing= x) ∙ k))
+link-of {x = x} (flags m) h k = absurd (held-not-linked h (sym (m .standing= x) ∙ k))
+link-of {x = x} (backlinks m) h k = absurd (held-not-linked h (sym (m .standing= x) ∙ k))
 link-of {w = w} {R' = R'} {x = x} (private {new = new} m) h k = elim (ℕ-discrete x new) [
   | yes e ↦ absurd (mine e (m .after))
-  | no e ↦ absurd (held-linked h (ap (λ (r : Row). r .standing) (sym (m .other x e)) ∙ k))
+  | no e ↦ absurd (held-not-linked h (ap (λ (r : Row). r .standing) (sym (m .other x e)) ∙ k))
 ]
   where
     mine : x ≡ new → (standingOf R' new ≡ Free) ⊎ (standingOf R' new ≡ Held w) → ⊥
-    mine e (inl free) = free-linked free (ap (standingOf R') (sym e) ∙ k)
-    mine e (inr held) = held-linked held (ap (standingOf R') (sym e) ∙ k)
+    mine e (inl free) = free-not-linked free (ap (standingOf R') (sym e) ∙ k)
+    mine e (inr held) = held-not-linked held (ap (standingOf R') (sym e) ∙ k)
 
 -- what a move does to the map
 pub data Turn (top w : ℕ) (R R' : Table) (M : PlainMap) : PlainMap → Type 0 where
@@ -71,27 +71,27 @@ module _ {top : ℕ} {start : Catalogue} {calls : List Call} (ready : Ready top 
   unfoldable pub mapAt : ℕ → PlainMap
   mapAt i = chainMap (stateAt start calls i .rows)
 
-  pub is-map-at : (i : ℕ) → IsMapOf (rowAt (stateAt start calls i .rows)) (mapAt i)
+  pub is-map-at : (i : ℕ) → IsMapOf (TableAt ready i) (mapAt i)
   unfolding mapAt
-  is-map-at i = chain-map-is-map (stateAt start calls i .rows) (omega (arith, sound-at ready i .row-count)) (structure-at ready i)
+  is-map-at i = chain-map-is-map (stateAt start calls i .rows) (omega (arith, sound-at ready i .sizes .rows)) (structure-at ready i)
 
   pub same-rows-map : (i j : ℕ) → stateAt start calls i .rows ≡ stateAt start calls j .rows → mapAt i ≡ mapAt j
   unfolding mapAt
   same-rows-map i j e = ap chainMap e
 
   -- any map of the table is the map
-  pub is-the-map : (i : ℕ) (M : PlainMap) → IsMapOf (rowAt (stateAt start calls i .rows)) M → M ≡ mapAt i
+  pub is-the-map : (i : ℕ) (M : PlainMap) → IsMapOf (TableAt ready i) M → M ≡ mapAt i
   is-the-map i M is = map-unique (structure-at ready i) is (is-map-at i)
 
   -- the map, or what changes it, at position i
-  pub turn-at : (i w : ℕ) → Move top w (rowAt (stateAt start calls i .rows)) (rowAt (stateAt start calls (suc i) .rows))
-      → Turn top w (rowAt (stateAt start calls i .rows)) (rowAt (stateAt start calls (suc i) .rows)) (mapAt i) (mapAt (suc i))
+  pub turn-at : (i w : ℕ) → Move top w (TableAt ready i) (TableAt ready (suc i))
+      → Turn top w (TableAt ready i) (TableAt ready (suc i)) (mapAt i) (mapAt (suc i))
   turn-at i w m =
-      subst (Turn top w _ _ (mapAt i)) (is-the-map (suc i) (mapAfterMove m (mapAt i)) (map-after-move (structure-at ready i) m (is-map-at i)))
-      (turn m (mapAt i))
+      let is = is-the-map (suc i) (mapAfterMove m (mapAt i)) (map-after-move (structure-at ready i) m (is-map-at i)) in
+      rw is at (turn m (mapAt i))
 
   -- the step that links a row of key k and element e
-  pub link-agrees : (i w k e : ℕ) → LinksRow w (rowAt (stateAt start calls i .rows)) (rowAt (stateAt start calls (suc i) .rows)) k e
+  pub link-agrees : (i w k e : ℕ) → LinksRow w (TableAt ready i) (TableAt ready (suc i)) k e
       → Agrees (mapAt i) (insert k e) Added (mapAt (suc i))
   link-agrees i w k e l =
       let m = link-of (move-at ready i) (l .held) (l .linked) .move in
@@ -102,8 +102,8 @@ module _ {top : ℕ} {start : Catalogue} {calls : List Call} (ready : Ready top 
       (rw (l .has-key, l .has-element) at becomes)
 
   -- the step that marks row y
-  pub mark-agrees : (i y : ℕ) → markOf (rowAt (stateAt start calls i .rows)) y ≡ false → markOf (rowAt (stateAt start calls (suc i) .rows)) y ≡ true
-      → Agrees (mapAt i) (delete (rowAt (stateAt start calls i .rows) y .key)) (Removed (rowAt (stateAt start calls i .rows) y .element)) (mapAt (suc i))
+  pub mark-agrees : (i y : ℕ) → markOf (TableAt ready i) y ≡ false → markOf (TableAt ready (suc i)) y ≡ true
+      → Agrees (mapAt i) (delete (TableAt ready i y .key)) (Removed (TableAt ready i y .element)) (mapAt (suc i))
   mark-agrees i y unmarked marked =
       let m = mark-of (move-at ready i) unmarked marked .move in
       let removes = mark-removes (structure-at ready i) m in

@@ -1,29 +1,29 @@
--- The requests that change the map, each at its step: an add at the step that links its row, a delete at the step that marks its row. Such a
--- request changes the map once, and two never change it at one step.
+-- The requests that change the map, each at its step: an add at the step that links its row, a delete at the step that marks its row.
+-- Such a request changes the map once, and two never change it at one step.
 use Prim.Native.Nat.{ℕ, suc, _≤_, _<_}
 use mathlib.Core.Bool.{true, false}
-use mathlib.Core.Path.{_≡_, refl, ap, sym, _∙_, subst}
+use mathlib.Core.Path.{_≡_, refl, ap, sym, _∙_}
 use mathlib.Core.Logic.{_≢_}
 use mathlib.Core.List.{List}
 use native.Mathlib.Omega.{arith}
 use native.Mathlib.Decide.{ℕ-discrete, decLe}
 use lib.ListN.{length}
-use Rattle.order.specs.Basics.{clash, Compared, less, equal, more, compared}
 use Rattle.order.specs.Table.{Table, markOf}
-use Rattle.order.specs.Hindsight.{mark-of}
-use Rattle.order.specs.Timeline.{grown-later}
-use Rattle.order.specs.PlainMap.{Operation, operation, search, insert, delete}
+use Rattle.order.specs.MarkOf.{mark-of}
+use Rattle.order.specs.PlainMap.{Operation, operation, insert}
 use Rattle.order.specs.Lawful.{noRowRemoved}
 use Rattle.order.specs.Asking.{Agrees}
-use Rattle.order.specs.Memory.{Answered, LinksRow}
+use Rattle.order.specs.Memory.{Answered, LinksRow, is-added}
 use Rattle.order.specs.Demand.{stateAt, Accepts, Request, Removing}
-use Rattle.order.specs.Time.{Ready, Happening, nothing-happens, submits, steps, happening, owned-at, structure-at, mover-at, move-at}
-use Rattle.order.specs.Running.{TableAt, removedAt, Running, Ends}
+use Rattle.order.specs.Time.{Ready, Happening, nothing-happens, submits, steps, happening, owned-at, structure-at, move-at, TableAt, grown-at}
+use Rattle.order.specs.Running.{removedAt, Running, Ends}
 use Rattle.order.specs.OneRequest.{same-stepper, same-request, same-finish}
 use Rattle.order.specs.Courses.{ended-not-running, Course, under-way, over, course, alone, removes-on}
 use Rattle.order.specs.MapAt.{mapAt, link-of, mark-agrees}
-use Rattle.order.specs.Moments.{reading, Kind, reads-only, is-full, adds as adds-kind, removes as removes-kind, kind}
+use Rattle.order.specs.Moments.{reading, Kind, reads-only, is-full, kind, adds as adds-kind, removes as removes-kind}
 use Rattle.order.specs.Removals.{removes-save, removal-answer, removing}
+use Rattle.order.specs.Compared.{Compared, less, equal, more, compared}
+use Rattle.kept.specs.Conditions.{clash, contradiction}
 use Rattle.model.specs.State.{rowAt}
 use Rattle.model.specs.declared.Row.{Row}
 use Rattle.model.specs.declared.Catalogue.{Catalogue}
@@ -33,7 +33,7 @@ use Rattle.model.specs.declared.Call.{Call}
 use Rattle.model.specs.declared.Call.the-variants.{Step}
 
 not-removed : {A : Type 0} {a : Answer} {e : ℕ} → a ≡ Added → a ≡ Removed e → A
-not-removed h k = let z : _≡_ {A = ℕ} 0 1 = cc in absurd (omega arith)
+not-removed h k = contradiction (cc)
 
 module _ {top : ℕ} {start : Catalogue} {calls : List Call} (ready : Ready top start calls) where
   -- the request submitted at s changes the map at T
@@ -43,16 +43,20 @@ module _ {top : ℕ} {start : Catalogue} {calls : List Call} (ready : Ready top 
         → markOf (TableAt ready T) y ≡ false → markOf (TableAt ready (suc T)) y ≡ true → Change s T
 
   -- what is said of one request by another account of it
-  pub by-request : (P : ℕ → ℕ → ℕ → ℕ → Type 0) (s w code key element w' code' key' element' : ℕ) → Request start calls s w code key element
-      → Request start calls s w' code' key' element' → P w' code' key' element' → P w code key element
-  by-request P s w code key element w' code' key' element' a b p =
+  pub by-request : (P : ℕ → ℕ → ℕ → ℕ → Type 0) {s w code key element w' code' key' element' : ℕ}
+      → Request start calls s w code key element → Request start calls s w' code' key' element' → P w' code' key' element'
+      → P w code key element
+  by-request P {s} {w} {code} {key} {element} {w'} {code'} {key'} {element'} a b p =
       let e = same-request s w code key element w' code' key' element' a b in
-      subst (λ (x : ℕ). P x code key element) (e .worker) (subst (λ (x : ℕ). P w' x key element) (e .code-same)
-      (subst (λ (x : ℕ). P w' code' x element) (e .key-same) (subst (P w' code' key') (e .element-same) p)))
+      rw (e .worker, e .code-same, e .key-same, e .element-same) at p
+
+  ends-too : {s w code key element w' code' key' element' f : ℕ} {a : Answer} → Request start calls s w code key element
+      → Ends ready s w' code' key' element' f a → Ends ready s w code key element f a
+  ends-too {s} {f = f} {a = a} r e = by-request (λ v c k x. Ends ready s v c k x f a) r (e .running .request) e
 
   pub marked-still : (t u y : ℕ) → t ≤ u → markOf (TableAt ready t) y ≡ true → markOf (TableAt ready u) y ≡ true
   marked-still t u y h m =
-      grown-later (TableAt ready) (mover-at ready) (structure-at ready) (move-at ready) t u y h (structure-at ready t .mark-linked y m) .mark m
+      grown-at ready t u y h (structure-at ready t .mark-linked y m) .mark m
 
   -- a mark is the work of an accepted step
   pub marking-step : (T y : ℕ) → markOf (TableAt ready T) y ≡ false → markOf (TableAt ready (suc T)) y ≡ true
@@ -68,7 +72,8 @@ module _ {top : ℕ} {start : Catalogue} {calls : List Call} (ready : Ready top 
       go (steps w a taken) = (w, a)
 
   -- a delete that removes a row ends with Removed
-  pub ends-removed : (s w code key element T f y : ℕ) (a : Answer) → Running ready s w code key element T → removedAt ready T w ≡ y → y ≢ noRowRemoved
+  pub ends-removed : (s w code key element T f y : ℕ) (a : Answer) → Running ready s w code key element T → removedAt ready T w ≡ y
+      → y ≢ noRowRemoved
       → Ends ready s w code key element f a → (T ≤ f) × (a ≡ Removed (TableAt ready f y .element))
   ends-removed s w code key element T f y a r is some e = go (decLe T f)
     where
@@ -86,8 +91,8 @@ module _ {top : ℕ} {start : Catalogue} {calls : List Call} (ready : Ready top 
     finishes : (f : ℕ) → T ≤ f → Ends ready s w code key element f (Removed (TableAt ready T y .element)) → Outcome s w code key element T y
     stays : Removing start calls s w → Outcome s w code key element T y
 
-  module _ (s w code key element T y : ℕ) (r : Running ready s w code key element T) (is : removedAt ready T w ≡ y) (some : y ≢ noRowRemoved)
-      (unmarked : markOf (TableAt ready T) y ≡ false) (marked : markOf (TableAt ready (suc T)) y ≡ true) where
+  module _ (s w code key element T y : ℕ) (r : Running ready s w code key element T) (is : removedAt ready T w ≡ y)
+      (some : y ≢ noRowRemoved) (unmarked : markOf (TableAt ready T) y ≡ false) (marked : markOf (TableAt ready (suc T)) y ≡ true) where
     inside : T < length calls
     inside = marking-step T y unmarked marked .1 .inside
 
@@ -102,8 +107,8 @@ module _ {top : ℕ} {start : Catalogue} {calls : List Call} (ready : Ready top 
         go (over f a h e) =
             let answer = ends-removed s w code key element T f y a r is some e in
             let linked = removes-save ready s w code key element T y r is some .save .linked in
-            let g = grown-later (TableAt ready) (mover-at ready) (structure-at ready) (move-at ready) T f y (answer .0) linked in
-            finishes f (answer .0) (subst (Ends ready s w code key element f) (answer .1 ∙ ap Removed (g .element)) e)
+            let g = grown-at ready T f y (answer .0) linked in
+            finishes f (answer .0) (rw (answer .1 ∙ ap Removed (g .element)) at e)
 
     pub removal-agrees : Agrees (mapAt ready T) (operation code key element) (Removed (TableAt ready T y .element)) (mapAt ready (suc T))
     removal-agrees =
@@ -117,7 +122,7 @@ module _ {top : ℕ} {start : Catalogue} {calls : List Call} (ready : Ready top 
       go : Kind ready s w T (operation code key element) Added
           → Agrees (mapAt ready T) (operation code key element) Added (mapAt ready (suc T))
       go (reads-only h r) = absurd (clash h refl)
-      go (is-full h) = let z : _≡_ {A = ℕ} 0 1 = cc in absurd (omega arith)
+      go (is-full h) = contradiction (cc)
       go (adds-kind h agrees) = agrees
       go (removes-kind x h r) = not-removed refl h
 
@@ -126,7 +131,7 @@ module _ {top : ℕ} {start : Catalogue} {calls : List Call} (ready : Ready top 
   add-not-removal : {A : Type 0} (s w code key element w' code' key' element' T T' y : ℕ) → Ends ready s w code key element T Added
       → Running ready s w' code' key' element' T' → removedAt ready T' w' ≡ y → y ≢ noRowRemoved → A
   add-not-removal s w code key element w' code' key' element' T T' y e r is some =
-      let e' = by-request (λ v c k x. Ends ready s v c k x T Added) s w' code' key' element' w code key element (r .request) (e .running .request) e in
+      let e' = ends-too (r .request) e in
       not-removed refl (ends-removed s w' code' key' element' T' T y Added r is some e' .1)
 
   removal-before : {A : Type 0} (s w code key element T T' y y' : ℕ) → Running ready s w code key element T → removedAt ready T w ≡ y
@@ -139,17 +144,16 @@ module _ {top : ℕ} {start : Catalogue} {calls : List Call} (ready : Ready top 
 
   pub change-once : (s T T' : ℕ) → Change s T → Change s T' → T ≡ T'
   change-once s T T' (adds w code key element e) (adds w' code' key' element' e') =
-      let e'' = by-request (λ v c k x. Ends ready s v c k x T' Added) s w code key element w' code' key' element'
-      (e .running .request) (e' .running .request) e' in
+      let e'' = ends-too (e .running .request) e' in
       same-finish s w T T' Added Added (e .finished) (e'' .finished) .0
   change-once s T T' (adds w code key element e) (removes w' code' key' element' y r is some unmarked marked) =
       add-not-removal s w code key element w' code' key' element' T T' y e r is some
   change-once s T T' (removes w' code' key' element' y r is some unmarked marked) (adds w code key element e) =
       add-not-removal s w code key element w' code' key' element' T' T y e r is some
-  change-once s T T' (removes w code key element y r is some unmarked marked) (removes w' code' key' element' y' r' is' some' unmarked' marked') =
+  change-once s T T' (removes w code key element y r is some unmarked marked)
+      (removes w' code' key' element' y' r' is' some' unmarked' marked') =
       go (compared T T')
-      (by-request (λ v c k x. Running ready s v c k x T' × (removedAt ready T' v ≡ y')) s w code key element w' code' key' element'
-      (r .request) (r' .request) (r', is'))
+      (by-request (λ v c k x. Running ready s v c k x T' × (removedAt ready T' v ≡ y')) (r .request) (r' .request) (r', is'))
     where
       go : Compared T T' → Running ready s w code key element T' × (removedAt ready T' w ≡ y') → T ≡ T'
       go (less h) (q, i) = removal-before s w code key element T T' y y' r is some marked q i unmarked' h
@@ -161,9 +165,7 @@ module _ {top : ℕ} {start : Catalogue} {calls : List Call} (ready : Ready top 
   -- the add links its row
   answer-links : (w t u : ℕ) (R' : Table) (y : ℕ) (o : Operation) → Answered w (TableAt ready) t u R' y o Added
       → (k : ℕ) × (x : ℕ) × LinksRow w (TableAt ready u) R' k x
-  answer-links w t u R' y (search k) h = absurd h
-  answer-links w t u R' y (insert k x) h = (k, x, h)
-  answer-links w t u R' y (delete k) h = absurd h
+  answer-links w t u R' y (insert k x) (is-added h) = (k, x, h)
 
   ends-link : (s w code key element T : ℕ) (e : Ends ready s w code key element T Added)
       → (k : ℕ) × (x : ℕ) × LinksRow w (TableAt ready T) (TableAt ready (suc T)) k x
@@ -180,14 +182,15 @@ module _ {top : ℕ} {start : Catalogue} {calls : List Call} (ready : Ready top 
   change-alone s s' T (adds w code key element e) (adds w' code' key' element' e') =
       let same = same-stepper T w' w (e' .finished .step) (e .finished .step) in
       alone ready s w code key element s' code' key' element' T (e .running)
-      (subst (λ (v : ℕ). Running ready s' v code' key' element' T) same (e' .running))
+      (rw same at (e' .running))
   change-alone s s' T (adds w code key element e) (removes w' code' key' element' y r is some unmarked marked) =
       link-no-mark s w code key element T y e unmarked marked
   change-alone s s' T (removes w' code' key' element' y r is some unmarked marked) (adds w code key element e) =
       link-no-mark s' w code key element T y e unmarked marked
-  change-alone s s' T (removes w code key element y r is some unmarked marked) (removes w' code' key' element' y' r' is' some' unmarked' marked') =
+  change-alone s s' T (removes w code key element y r is some unmarked marked)
+      (removes w' code' key' element' y' r' is' some' unmarked' marked') =
       let same = owned-at ready T .only w' w y some (is' ∙ sym one-row) is in
-      alone ready s w code key element s' code' key' element' T r (subst (λ (v : ℕ). Running ready s' v code' key' element' T) same r')
+      alone ready s w code key element s' code' key' element' T r (rw same at r')
     where
       one-row : y ≡ y'
       one-row = elim (ℕ-discrete y y') [
@@ -200,24 +203,27 @@ module _ {top : ℕ} {start : Catalogue} {calls : List Call} (ready : Ready top 
   pub change-ends : (s T w code key element f : ℕ) (a : Answer) → Change s T → Ends ready s w code key element f a
       → (reading a ≡ false) × (a ≢ Full)
   change-ends s T w code key element f a (adds w' code' key' element' e') e =
-      let e'' = by-request (λ v c k x. Ends ready s v c k x T Added) s w code key element w' code' key' element'
-      (e .running .request) (e' .running .request) e' in
+      let e'' = ends-too (e .running .request) e' in
       let same = same-finish s w f T a Added (e .finished) (e'' .finished) .1 in
-      (ap reading same, λ h. let z : _≡_ {A = ℕ} 0 1 = cc in omega arith)
+      (ap reading same, λ h. contradiction (cc))
   change-ends s T w code key element f a (removes w' code' key' element' y r is some unmarked marked) e =
-      let e' = by-request (λ v c k x. Ends ready s v c k x f a) s w' code' key' element' w code key element (r .request) (e .running .request) e in
+      let e' = ends-too (r .request) e in
       let same = ends-removed s w' code' key' element' T f y a r is some e' .1 in
-      (ap reading same, λ h. let z : _≡_ {A = ℕ} 0 1 = cc in omega arith)
+      (ap reading same, λ h. contradiction (cc))
+
+  -- at the end worker w removes a row that is marked
+  abbrev pub RemovesMarked : ℕ → Type 0
+  RemovesMarked w = (removedAt ready (length calls) w ≢ noRowRemoved)
+      × (markOf (TableAt ready (length calls)) (removedAt ready (length calls) w) ≡ true)
 
   -- a request that changes the map and is unfinished at the end is a delete whose row is marked
   pub change-unfinished : (s T w code key element : ℕ) → Change s T → Running ready s w code key element (length calls)
-      → (removedAt ready (length calls) w ≢ noRowRemoved) × (markOf (TableAt ready (length calls)) (removedAt ready (length calls) w) ≡ true)
+      → RemovesMarked w
   change-unfinished s T w code key element (adds w' code' key' element' e') q =
-      let e = by-request (λ v c k x. Ends ready s v c k x T Added) s w code key element w' code' key' element' (q .request) (e' .running .request) e' in
+      let e = ends-too (q .request) e' in
       absurd (ended-not-running ready s w T (length calls) Added (e .finished) (e .finished .step .inside) (q .busy))
   change-unfinished s T w code key element (removes w' code' key' element' y r is some unmarked marked) q =
-      let both = by-request (λ v c k x. Running ready s v c k x T × (removedAt ready T v ≡ y)) s w code key element w' code' key' element'
-      (q .request) (r .request) (r, is) in
+      let both = by-request (λ v c k x. Running ready s v c k x T × (removedAt ready T v ≡ y)) (q .request) (r .request) (r, is) in
       let early = marking-step T y unmarked marked .1 .inside in
       let still = removes-on ready s w code key element T (length calls) y q (both .0 .since) (omega arith) (both .1) some in
       ((λ h. some (sym still ∙ h)), rw still (marked-still (suc T) (length calls) y early marked))

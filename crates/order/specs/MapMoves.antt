@@ -7,14 +7,15 @@ use native.Mathlib.Omega.{arith}
 use Rattle.order.specs.Table.{Table, IsLinked, Regular}
 use Rattle.order.specs.Structure.{Structure}
 use Rattle.order.specs.Moves.{SameMark, SameStanding, LinkMove, MarkMove, UnlinkMove, FlagMove, BacklinkMove, PrivateMove, links, marks, unlinks, flags, backlinks, private}
-use Rattle.order.specs.Basics.{clash, held-linked}
 use Rattle.order.specs.StructureFacts.{above-not-head}
 use Rattle.order.specs.Unchanged.{same-regular-after, same-regular-before}
 use Rattle.order.specs.LinkKeeps.{fresh}
 use Rattle.order.specs.MarkKeeps.{del-regular, del-not-tail, prev-below, regular-before}
-use Rattle.order.specs.PrivateKeeps.{regular-after as private-regular-after, regular-before as private-regular-before}
-use Rattle.order.specs.Kept.{Grown, grow}
+use Rattle.order.specs.MovesKeep.{Grown, grow}
 use Rattle.order.specs.TableMap.{Has, Lacks, rank-of-save, one-row}
+use Rattle.order.specs.PrivateKeeps.{regular-after as private-regular-after, regular-before as private-regular-before}
+use Rattle.kept.specs.Conditions.{clash}
+use Rattle.kept.specs.Standing.{held-not-linked}
 
 -- the two tables have the same under key k
 pub record SameAt (R R' : Table) (k : ℕ) : Type 0 where
@@ -58,8 +59,8 @@ pub record Removes (R R' : Table) (k e : ℕ) : Type 0 where
 module _ {top w : ℕ} {R R' : Table} {prev new next : ℕ} (sound : Structure top R) (move : LinkMove top w R R' prev new next) where
   new-save : 1 < new
   new-save =
-      let h : new ≢ 0 = λ e. held-linked (move .new-held) (cc (sound .head .linked)) in
-      let k : new ≢ 1 = λ e. held-linked (move .new-held) (cc (sound .tail .linked)) in
+      let h : new ≢ 0 = λ e. held-not-linked (move .new-held) (cc (sound .head .linked)) in
+      let k : new ≢ 1 = λ e. held-not-linked (move .new-held) (cc (sound .tail .linked)) in
       omega arith
 
   pub link-adds : Adds R R' (R new .key) (R new .element)
@@ -74,7 +75,7 @@ module _ {top w : ℕ} {R R' : Table} {prev new next : ℕ} (sound : Structure t
     };
     others = λ j h. same-at R R' j (grow {w = w} sound (links move))
         (λ z l e. record {
-          linked = move .standing-other z (λ q. held-linked (move .new-held) (cc (l .linked))) ∙ l .linked;
+          linked = move .standing-other z (λ q. held-not-linked (move .new-held) (cc (l .linked))) ∙ l .linked;
           unmarked = move .mark= z ∙ l .unmarked;
         })
         (λ z l e.

@@ -54,19 +54,20 @@ same-entry same (some e) h = same .has-after e h
 same-map : {R R' : Table} {M : PlainMap} → ((k : ℕ) → SameAt R R' k) → IsMapOf R M → IsMapOf R' M
 same-map {M = M} same is = record { entry = λ k. same-entry (same k) (M k) (is .entry k) }
 
-pub adds-map : {R R' : Table} {M : PlainMap} {k e : ℕ} → Adds R R' k e → IsMapOf R M → IsMapOf R' (setting M k (some e))
-adds-map {R} {R'} {M} {k} {e} adds is = record { entry = λ j. go j (ℕ-discrete j k) }
+-- one entry is set, and the others stay
+set-map : {R R' : Table} {M : PlainMap} {k : ℕ} (entry : Option ℕ) → Entry R' k entry → ((j : ℕ) → j ≢ k → SameAt R R' j)
+    → IsMapOf R M → IsMapOf R' (setting M k entry)
+set-map {R' = R'} {M = M} {k = k} entry here others is = record { entry = λ j. go j (ℕ-discrete j k) }
   where
-    go : (j : ℕ) → Dec (j ≡ k) → Entry R' j (setting M k (some e) j)
-    go j (yes q) = rw q (rw (setting-same M k (some e)) (adds .has))
-    go j (no q) = rw (setting-other M k j (some e) q) (same-entry (adds .others j q) (M j) (is .entry j))
+    go : (j : ℕ) → Dec (j ≡ k) → Entry R' j (setting M k entry j)
+    go j (yes q) = rw q (rw (setting-same M k entry) here)
+    go j (no q) = rw (setting-other M k j entry q) (same-entry (others j q) (M j) (is .entry j))
+
+pub adds-map : {R R' : Table} {M : PlainMap} {k e : ℕ} → Adds R R' k e → IsMapOf R M → IsMapOf R' (setting M k (some e))
+adds-map adds is = set-map (some _) (adds .has) (adds .others) is
 
 pub removes-map : {R R' : Table} {M : PlainMap} {k e : ℕ} → Removes R R' k e → IsMapOf R M → IsMapOf R' (setting M k none)
-removes-map {R} {R'} {M} {k} {e} removes is = record { entry = λ j. go j (ℕ-discrete j k) }
-  where
-    go : (j : ℕ) → Dec (j ≡ k) → Entry R' j (setting M k none j)
-    go j (yes q) = rw q (rw (setting-same M k none) (removes .lacks))
-    go j (no q) = rw (setting-other M k j none q) (same-entry (removes .others j q) (M j) (is .entry j))
+removes-map removes is = set-map none (removes .lacks) (removes .others) is
 
 -- the map after a move
 unfoldable pub mapAfterMove : {top w : ℕ} {R R' : Table} → Move top w R R' → PlainMap → PlainMap

@@ -9,9 +9,10 @@ use native.Mathlib.Decide.{ℕ-discrete}
 use Rattle.order.specs.Table.{Table, rightOf, markOf, flagOf, backOf, rankOf, Regular}
 use Rattle.order.specs.Structure.{Structure}
 use Rattle.order.specs.Moves.{MarkMove}
-use Rattle.order.specs.Basics.{clash, Compared, less, equal, more, compared}
 use Rattle.order.specs.StructureFacts.{above-not-head, flagged-not-tail, flagged-right-linked, flagged-right-above, marked-not-tail, unflagged-right-unmarked, predecessor-unique}
-use Rattle.order.specs.Unchanged.{same-rank, same-below-tail, same-back-linked, same-back-below, same-right-linked, same-right-above, same-same, same-gap}
+use Rattle.order.specs.Unchanged.{same-rank, same-below-tail, same-back-linked, same-back-below, same-right-linked, same-right-above, same-same, same-gap, same-past-right}
+use Rattle.order.specs.Compared.{Compared, less, equal, more, compared}
+use Rattle.kept.specs.Conditions.{clash}
 
 module _ {top : ℕ} {R R' : Table} {prev del : ℕ} (sound : Structure top R) (move : MarkMove R R' prev del) where
   rank= : (x : ℕ) → rankOf top R' x ≡ rankOf top R x
@@ -53,7 +54,7 @@ module _ {top : ℕ} {R R' : Table} {prev del : ℕ} (sound : Structure top R) (
   right-mark x h = cc (move .right= x)
 
   past-right= : (x : ℕ) → rightOf R' (rightOf R' x) ≡ rightOf R (rightOf R x)
-  past-right= x = cc (move .right= x, move .right= (rightOf R x))
+  past-right= = same-past-right R R' (move .right=)
 
   flag-before : (x : ℕ) → flagOf R' x ≡ true → flagOf R x ≡ true
   flag-before x h = cc (move .flag= x)

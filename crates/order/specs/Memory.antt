@@ -9,10 +9,11 @@ use native.Mathlib.Omega.{arith}
 use native.Mathlib.Decide.{ℕ-discrete, decLt}
 use lib.ListN.{length, set, List·getD-eq-default, length-set}
 use lib.Seq.{getD-set-same, getD-set-other}
-use Rattle.order.specs.Table.{Table, markOf, standingOf, IsLinked}
+use Rattle.order.specs.Table.{Table, markOf, standingOf, IsLinked, tablesOf}
 use Rattle.order.specs.Timeline.{LacksWithin, HasWithin, RegularWithin}
 use Rattle.order.specs.PlainMap.{Operation, search, insert, delete}
 use Rattle.order.specs.Lawful.{noRowRemoved, removedRow}
+use Rattle.kept.specs.Conditions.{contradiction}
 use Rattle.model.specs.State.{rowAt, freeRow}
 use Rattle.model.specs.Choices.{if-both}
 use Rattle.model.specs.Cas.{succAt, sameSucc, cas}
@@ -21,7 +22,7 @@ use Rattle.model.specs.declared.Row.{Row}
 use Rattle.model.specs.declared.Succ.{Succ}
 use Rattle.model.specs.declared.Standing.the-variants.{Held, Linked}
 use Rattle.model.specs.declared.Answer.{Answer}
-use Rattle.model.specs.declared.Answer.the-variants.{NoAnswer, Found, Absent, Added, Duplicate, Removed, Full}
+use Rattle.model.specs.declared.Answer.the-variants.{Found, Absent, Added, Duplicate, Removed, Full}
 use Rattle.model.specs.declared.Effect.{Effect}
 use Rattle.model.specs.declared.Write.{Write}
 use Rattle.model.specs.declared.Write.the-variants.{NoRow, OneRow, TwoRows}
@@ -133,7 +134,8 @@ module _ (R : ℕ → Table) (t u : ℕ) where
 
   pub past-still : (l : Line) → Past R t u l → Past R t (suc u) l
   past-still (Idle a) h = tt
-  past-still (Search l f) (unmarked, line, caller) = (unmarked, search-still l (f .curr) line, search-caller-still (f .key) (f .caller) caller)
+  past-still (Search l f) (unmarked, line, caller) =
+      (unmarked, search-still l (f .curr) line, search-caller-still (f .key) (f .caller) caller)
   past-still (Insert l f) h = h
   past-still (Flag l f) (unmarked, target) = (unmarked, target-still target)
   past-still (Help l f) h = help-caller-still (f .key) (f .caller) h
@@ -154,29 +156,17 @@ pub record RemovesRow (R : Table) (row e : ℕ) : Type 0 where
   pub marked : markOf R row ≡ true
   pub has-element : R row .element ≡ e
 
-module _ (me : ℕ) (R : ℕ → Table) (t u : ℕ) (R' : Table) (removed : ℕ) where
-  -- the answer fits the operation, and was right at a moment from t to u, the table after the step being R'
-  abbrev pub Answered : Operation → Answer → Type 0
-  Answered o NoAnswer = ⊥
-  Answered (search k) (Found e) = HasWithin R t u k e
-  Answered (insert k x) (Found e) = ⊥
-  Answered (delete k) (Found e) = ⊥
-  Answered (search k) Absent = LacksWithin R t u k
-  Answered (insert k x) Absent = ⊥
-  Answered (delete k) Absent = (removed ≡ noRowRemoved) × LacksWithin R t u k
-  Answered (search k) Added = ⊥
-  Answered (insert k x) Added = LinksRow me (R u) R' k x
-  Answered (delete k) Added = ⊥
-  Answered (search k) Duplicate = ⊥
-  Answered (insert k x) Duplicate = (e : ℕ) × HasWithin R t u k e
-  Answered (delete k) Duplicate = ⊥
-  Answered (search k) (Removed e) = ⊥
-  Answered (insert k x) (Removed e) = ⊥
-  Answered (delete k) (Removed e) = RemovesRow (R u) removed e
-  Answered (search k) Full = ⊥
-  Answered (insert k x) Full = Unit {0}
-  Answered (delete k) Full = ⊥
+-- the answer fits the operation, and was right at a moment from t to u, the table after the step being R'
+pub data Answered (me : ℕ) (R : ℕ → Table) (t u : ℕ) (R' : Table) (removed : ℕ) : Operation → Answer → Type 0 where
+  is-found : {k e : ℕ} → HasWithin R t u k e → Answered me R t u R' removed (search k) (Found e)
+  is-absent : {k : ℕ} → LacksWithin R t u k → Answered me R t u R' removed (search k) Absent
+  is-added : {k e : ℕ} → LinksRow me (R u) R' k e → Answered me R t u R' removed (insert k e) Added
+  is-duplicate : {k x e : ℕ} → HasWithin R t u k e → Answered me R t u R' removed (insert k x) Duplicate
+  no-row-free : {k e : ℕ} → Answered me R t u R' removed (insert k e) Full
+  is-removed : {k e : ℕ} → RemovesRow (R u) removed e → Answered me R t u R' removed (delete k) (Removed e)
+  none-removed : {k : ℕ} → removed ≡ noRowRemoved → LacksWithin R t u k → Answered me R t u R' removed (delete k) Absent
 
+module _ (me : ℕ) (R : ℕ → Table) (t u : ℕ) (R' : Table) (removed : ℕ) where
   -- what a busy line goes on with: its operation, what it remembers, the row that it removes
   pub record GoesOn (o : Operation) (l : Line) : Type 0 where
     pub operation-same : operationOf l ≡ o
@@ -184,7 +174,7 @@ module _ (me : ℕ) (R : ℕ → Table) (t u : ℕ) (R' : Table) (removed : ℕ)
     pub removed-same : (removed ≡ noRowRemoved) ⊎ (removedRow l ≡ removed)
 
   abbrev pub NextLine : Operation → Line → Type 0
-  NextLine o (Idle a) = Answered o a
+  NextLine o (Idle a) = Answered me R t u R' removed o a
   NextLine o (Search l f) = GoesOn o (Search l f)
   NextLine o (Insert l f) = GoesOn o (Insert l f)
   NextLine o (Flag l f) = GoesOn o (Flag l f)
@@ -211,14 +201,13 @@ links-none rows (OneRow i r) none x h = go (ℕ-discrete x i) (decLt i (length r
         ap (λ (y : ℕ). standingOf (rowAt rows) y) e ∙ none (ap (λ (s : Row). s .standing) (sym here) ∙ h)
     go (yes e) (no outside) =
         let past = List·getD-eq-default (set rows i r) freeRow {n = x} (omega (arith, length-set rows i r)) in
-        let z : _≡_ {A = ℕ} 0 1 = cc in
-        absurd (omega arith)
+        contradiction (cc)
 
 -- ---- What is asked of the effect of a line ----
 
 -- The effect e of a line of worker me that belongs to the operation o and removes the row `removed`.
 pub record Tells (me : ℕ) (rowsAt : ℕ → List Row) (t u : ℕ) (o : Operation) (removed : ℕ) (e : Effect) : Type 0 where
-  pub next : NextLine me (λ (i : ℕ). rowAt (rowsAt i)) t u (rowAt (written (rowsAt u) (e .write))) removed o (e .line)
+  pub next : NextLine me (tablesOf rowsAt) t u (rowAt (written (rowsAt u) (e .write))) removed o (e .line)
   pub linking : LinksNone (rowsAt u) (e .write) ⊎ (e .line ≡ Idle Added)
 
 -- a C&S links no row

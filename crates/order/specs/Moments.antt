@@ -2,7 +2,7 @@
 -- plain map gives that answer. Between the table at which the answer was right and the next accepted step no row changes.
 use Prim.Native.Nat.{ℕ, zero, suc, _+_, _-_, _≤_, _<_}
 use mathlib.Core.Bool.{Bool, true, false}
-use mathlib.Core.Path.{_≡_, refl, ap, sym, _∙_, subst}
+use mathlib.Core.Path.{_≡_, refl, ap, sym, _∙_}
 use mathlib.Core.List.{List}
 use mathlib.Core.Option.{none, some}
 use native.Mathlib.Omega.{arith}
@@ -10,10 +10,10 @@ use Rattle.order.specs.Timeline.{HasWithin, LacksWithin}
 use Rattle.order.specs.PlainMap.{PlainMap, Operation, operation, search, insert, delete}
 use Rattle.order.specs.MapOfTable.{map-has, map-lacks}
 use Rattle.order.specs.Asking.{Agrees, found-agrees, absent-agrees, duplicate-agrees, no-delete-agrees}
-use Rattle.order.specs.Memory.{Answered, RemovesRow}
+use Rattle.order.specs.Memory.{Answered, RemovesRow, is-found, is-absent, is-added, is-duplicate, no-row-free, is-removed, none-removed}
 use Rattle.order.specs.Demand.{stateAt, Accepts}
-use Rattle.order.specs.Time.{Ready, Happening, nothing-happens, submits, steps, happening, structure-at}
-use Rattle.order.specs.Running.{TableAt, removedAt, Ends}
+use Rattle.order.specs.Time.{Ready, Happening, nothing-happens, submits, steps, happening, structure-at, TableAt, RowsAt}
+use Rattle.order.specs.Running.{removedAt, Ends}
 use Rattle.order.specs.MapAt.{mapAt, is-map-at, same-rows-map, link-agrees}
 use Rattle.model.specs.declared.Catalogue.{Catalogue}
 use Rattle.model.specs.declared.Answer.{Answer}
@@ -44,7 +44,8 @@ module _ {top : ℕ} {start : Catalogue} {calls : List Call} (ready : Ready top 
   step-after : (n T f w : ℕ) → T + n ≡ f → Accepts start calls f (Step w) → StepFrom T f
   step-after zero T f w e a =
       let same : T ≡ f = omega arith in
-      record { moment = f; from = omega arith; until = omega arith; worker = w; step = a; rows-same = ap (λ (i : ℕ). stateAt start calls i .rows) (sym same) }
+      let rows = ap (RowsAt ready) (sym same) in
+      record { moment = f; from = omega arith; until = omega arith; worker = w; step = a; rows-same = rows }
   step-after (suc n) T f w e a = go (happening ready T) (step-after n (suc T) f w (omega arith) a)
     where
       later : stateAt start calls (suc T) .rows ≡ stateAt start calls T .rows → StepFrom (suc T) f → StepFrom T f
@@ -82,7 +83,7 @@ module _ {top : ℕ} {start : Catalogue} {calls : List Call} (ready : Ready top 
         until = next .until;
         worker = next .worker;
         step = next .step;
-        agrees = subst (λ (m : PlainMap). Agrees m o a m) (same-rows-map ready T (next .moment) (sym (next .rows-same))) agrees;
+        agrees = rw (same-rows-map ready T (next .moment) (sym (next .rows-same))) at agrees;
       }
 
   module _ (s f w : ℕ) (accepts : Accepts start calls f (Step w)) where
@@ -106,26 +107,17 @@ module _ {top : ℕ} {start : Catalogue} {calls : List Call} (ready : Ready top 
     removes : (e : ℕ) → a ≡ Removed e → RemovesRow (TableAt ready f) (removedAt ready f w) e → Kind s w f o a
 
   module _ (s w f : ℕ) (accepts : Accepts start calls f (Step w)) where
-    kind-of : (o : Operation) (a : Answer) → Answered w (TableAt ready) (suc s) f (TableAt ready (suc f)) (removedAt ready f w) o a → Kind s w f o a
-    kind-of o NoAnswer h = absurd h
-    kind-of (search k) (Found e) h = reads-only refl (has-reads s f w accepts k e _ _ (λ m is. found-agrees m k e is) h)
-    kind-of (insert k x) (Found e) h = absurd h
-    kind-of (delete k) (Found e) h = absurd h
-    kind-of (search k) Absent h = reads-only refl (lacks-reads s f w accepts k _ _ (λ m is. absent-agrees m k is) h)
-    kind-of (insert k x) Absent h = absurd h
-    kind-of (delete k) Absent h = reads-only refl (lacks-reads s f w accepts k _ _ (λ m is. no-delete-agrees m k is) (h .1))
-    kind-of (search k) Added h = absurd h
-    kind-of (insert k x) Added h = adds refl (link-agrees ready f w k x h)
-    kind-of (delete k) Added h = absurd h
-    kind-of (search k) Duplicate h = absurd h
-    kind-of (insert k x) Duplicate h = reads-only refl (has-reads s f w accepts k (h .0) _ _ (λ m is. duplicate-agrees m k (h .0) x is) (h .1))
-    kind-of (delete k) Duplicate h = absurd h
-    kind-of (search k) (Removed e) h = absurd h
-    kind-of (insert k x) (Removed e) h = absurd h
-    kind-of (delete k) (Removed e) h = removes e refl h
-    kind-of (search k) Full h = absurd h
-    kind-of (insert k x) Full h = is-full refl
-    kind-of (delete k) Full h = absurd h
+    kind-of : (o : Operation) (a : Answer) → Answered w (TableAt ready) (suc s) f (TableAt ready (suc f)) (removedAt ready f w) o a
+        → Kind s w f o a
+    kind-of (search k) (Found e) (is-found h) = reads-only refl (has-reads s f w accepts k e _ _ (λ m is. found-agrees m k e is) h)
+    kind-of (search k) Absent (is-absent h) = reads-only refl (lacks-reads s f w accepts k _ _ (λ m is. absent-agrees m k is) h)
+    kind-of (insert k x) Added (is-added h) = adds refl (link-agrees ready f w k x h)
+    kind-of (insert k x) Duplicate (is-duplicate {e = e} h) =
+        reads-only refl (has-reads s f w accepts k e _ _ (λ m is. duplicate-agrees m k e x is) h)
+    kind-of (insert k x) Full no-row-free = is-full refl
+    kind-of (delete k) (Removed e) (is-removed h) = removes e refl h
+    kind-of (delete k) Absent (none-removed no-row h) =
+        reads-only refl (lacks-reads s f w accepts k _ _ (λ m is. no-delete-agrees m k is) h)
 
   pub kind : (s w code key element f : ℕ) (a : Answer) → Ends ready s w code key element f a → Kind s w f (operation code key element) a
   kind s w code key element f a e = kind-of s w f (e .finished .step) (operation code key element) a (e .answered)

@@ -2,22 +2,21 @@
 -- exactly the finished requests and the unfinished removals whose row is marked, each once, in the order of the moments.
 use Prim.Native.Nat.{ℕ, zero, suc, _+_, _≤_, _<_}
 use mathlib.Core.Bool.{Bool, true, false}
-use mathlib.Core.Path.{_≡_, refl, sym, _∙_, subst}
+use mathlib.Core.Path.{_≡_, refl, sym, _∙_}
 use mathlib.Core.Logic.{_⊎_, inl, inr}
-use mathlib.Core.List.{List, [], _++_, List·Memᴰ, List·Memᴰ·not-nil}
+use mathlib.Core.List.{List, [], _++_, List·Memᴰ, List·Memᴰ·not-nil, List·Memᴰ·append-cases, Memᴰ·append-left, Memᴰ·append-right}
 use native.Mathlib.Omega.{arith}
 use native.Mathlib.Decide.{ℕ-discrete}
 use lib.Dec.{eqb}
 use lib.ListN.{length}
 use borrow.Author.Tests.{eqb-true, eq-eqb}
-use Rattle.order.specs.Basics.{clash}
 use Rattle.order.specs.Demand.{Placed, InOrder, no-entry, Entry, is-finished, is-removing, Moment}
 use Rattle.order.specs.Time.{Ready}
-use Rattle.order.specs.Distinct.{Among}
 use Rattle.order.specs.MapChanges.{Change, adds, removes, change-once, change-ends, Outcome, finishes, stays, outcome, marking-step}
 use Rattle.order.specs.Fates.{ReadsAt, NoPlace, Fate, reads-at, changes-at, no-place, fate}
 use Rattle.order.specs.Picked.{picked, in-picked, picked-passes, picked-distinct}
-use Rattle.order.specs.Placing.{in-first, in-second, in-either, Once, nobody, once-append, placedAt, in-placed, of-placed, placed-once, placed-in-order}
+use Rattle.order.specs.Placing.{Once, nobody, once-append, placedAt, in-placed, of-placed, placed-once, placed-in-order}
+use Rattle.kept.specs.Conditions.{clash}
 use Rattle.model.specs.declared.Catalogue.{Catalogue}
 use Rattle.model.specs.declared.Call.{Call}
 
@@ -45,7 +44,7 @@ module _ {top : ℕ} {start : Catalogue} {calls : List Call} (ready : Ready top 
   reads-now t s h = go (fate ready s) h
     where
       go : (x : Fate ready s) → readsIn t x ≡ true → ReadsAt ready s t
-      go (reads-at T r) h = subst (ReadsAt ready s) (eqb-true T t h) r
+      go (reads-at T r) h = rw (eqb-true T t h) at r
       go (changes-at T c) h = absurd (clash h refl)
       go (no-place n) h = absurd (clash h refl)
 
@@ -55,7 +54,7 @@ module _ {top : ℕ} {start : Catalogue} {calls : List Call} (ready : Ready top 
     where
       go : (x : Fate ready s) → changesIn t x ≡ true → Change ready s t
       go (reads-at T r) h = absurd (clash h refl)
-      go (changes-at T c) h = subst (Change ready s) (eqb-true T t h) c
+      go (changes-at T c) h = rw (eqb-true T t h) at c
       go (no-place n) h = absurd (clash h refl)
 
   -- a request that changes the map at t is known to
@@ -100,17 +99,39 @@ module _ {top : ℕ} {start : Catalogue} {calls : List Call} (ready : Ready top 
 
   -- ---- The list ----
 
-  abbrev readers : ℕ → List ℕ
-  readers t = picked (readsNow t) (length calls)
+  -- the requests that pass a test, placed at step t
+  abbrev passing : (ℕ → Bool) → ℕ → List (Placed start calls)
+  passing test t = placedAt start calls t (picked test (length calls))
 
-  abbrev changers : ℕ → List ℕ
-  changers t = picked (changesNow t) (length calls)
+  in-passing : (test : ℕ → Bool) (t s : ℕ) → s < length calls → test s ≡ true
+      → List·Memᴰ (record { request = s; moment = t }) (passing test t)
+  in-passing test t s inside h = in-placed start calls t s (picked test (length calls)) (in-picked test s (length calls) inside h)
+
+  record Passes (test : ℕ → Bool) (t : ℕ) (p : Placed start calls) : Type 0 where
+    now : p .moment ≡ t
+    inside : p .request < length calls
+    passed : test (p .request) ≡ true
+
+  passes : (test : ℕ → Bool) (t : ℕ) (p : Placed start calls) → List·Memᴰ p (passing test t) → Passes test t p
+  passes test t p m =
+      let at = of-placed start calls t (picked test (length calls)) p m in
+      let picks = picked-passes test (p .request) (length calls) (at .1) in
+      record { now = at .0; inside = picks .0; passed = picks .1 }
+
+  passing-once : (test : ℕ → Bool) (t : ℕ) → Once start calls (passing test t)
+  passing-once test t = placed-once start calls t (picked test (length calls)) (picked-distinct test (length calls))
+
+  -- those that read the map at step t, and those that change it there
+  abbrev readers : ℕ → List (Placed start calls)
+  readers t = passing (readsNow t) t
+
+  abbrev changers : ℕ → List (Placed start calls)
+  changers t = passing (changesNow t) t
 
   -- the n steps from t on
   unfoldable pub orderFrom : ℕ → ℕ → List (Placed start calls)
   orderFrom zero t = []
-  orderFrom (suc n) t =
-      placedAt start calls t (picked (readsNow t) (length calls)) ++ (placedAt start calls t (picked (changesNow t) (length calls)) ++ orderFrom n (suc t))
+  orderFrom (suc n) t = readers t ++ (changers t ++ orderFrom n (suc t))
 
   -- where an entry comes from
   pub record Stands (n t : ℕ) (p : Placed start calls) : Type 0 where
@@ -122,26 +143,24 @@ module _ {top : ℕ} {start : Catalogue} {calls : List Call} (ready : Ready top 
   pub stands : (n t : ℕ) (p : Placed start calls) → List·Memᴰ p (orderFrom n t) → Stands n t p
   unfolding orderFrom
   stands zero t p m = absurd (List·Memᴰ·not-nil m)
-  stands (suc n) t p m = go (in-either p (placedAt start calls t (readers t)) _ m) (λ k. stands n (suc t) p k)
+  stands (suc n) t p m = go (List·Memᴰ·append-cases (readers t) m) (λ k. stands n (suc t) p k)
     where
+      now : {test : ℕ → Bool} → (test (p .request) ≡ true → BelongsTo t (p .request)) → Passes test t p → Stands (suc n) t p
+      now belongs r = record {
+        from = omega (arith, r .now);
+        until = omega (arith, r .now);
+        inside = r .inside;
+        belongs = rw (r .now) (belongs (r .passed));
+      }
+
       later : Stands n (suc t) p → Stands (suc n) t p
       later s = record { from = omega (arith, s .from); until = omega (arith, s .until); inside = s .inside; belongs = s .belongs }
 
-      reader : (p .moment ≡ t) × Among (p .request) (readers t) → Stands (suc n) t p
-      reader (at, m) =
-          let h = picked-passes (readsNow t) (p .request) (length calls) m in
-          record { from = omega arith; until = omega arith; inside = h .0; belongs = inl (rw at (h .1)) }
-
-      changer : (p .moment ≡ t) × Among (p .request) (changers t) → Stands (suc n) t p
-      changer (at, m) =
-          let h = picked-passes (changesNow t) (p .request) (length calls) m in
-          record { from = omega arith; until = omega arith; inside = h .0; belongs = inr (rw at (h .1)) }
-
-      go : List·Memᴰ p (placedAt start calls t (readers t)) ⊎ List·Memᴰ p (placedAt start calls t (changers t) ++ orderFrom n (suc t))
+      go : List·Memᴰ p (readers t) ⊎ List·Memᴰ p (changers t ++ orderFrom n (suc t))
           → (List·Memᴰ p (orderFrom n (suc t)) → Stands n (suc t) p) → Stands (suc n) t p
-      go (inl k) rest = reader (of-placed start calls t (readers t) p k)
-      go (inr k) rest = elim (in-either p (placedAt start calls t (changers t)) (orderFrom n (suc t)) k) [
-        | inl h ↦ changer (of-placed start calls t (changers t) p h)
+      go (inl k) rest = now (λ h. inl h) (passes (readsNow t) t p k)
+      go (inr k) rest = elim (List·Memᴰ·append-cases (changers t) k) [
+        | inl h ↦ now (λ q. inr q) (passes (changesNow t) t p h)
         | inr h ↦ later (rest h)
       ]
 
@@ -149,51 +168,47 @@ module _ {top : ℕ} {start : Catalogue} {calls : List Call} (ready : Ready top 
       → List·Memᴰ (record { request = s; moment = T }) (orderFrom n t)
   unfolding orderFrom
   in-order-from zero t s T low high inside belongs = absurd (omega arith)
-  in-order-from (suc n) t s T low high inside belongs = go (ℕ-discrete T t) belongs (λ h. in-order-from n (suc t) s T h (omega arith) inside belongs)
+  in-order-from (suc n) t s T low high inside belongs =
+      go (ℕ-discrete T t) belongs (λ h. in-order-from n (suc t) s T h (omega arith) inside belongs)
     where
       now : BelongsTo t s → List·Memᴰ (record { request = s; moment = t }) (orderFrom (suc n) t)
-      now (inl h) = in-first _ (placedAt start calls t (readers t)) _ (in-placed start calls t s (readers t) (in-picked (readsNow t) s (length calls) inside h))
-      now (inr h) = in-second _ (placedAt start calls t (readers t)) _
-          (in-first _ (placedAt start calls t (changers t)) _ (in-placed start calls t s (changers t) (in-picked (changesNow t) s (length calls) inside h)))
+      now (inl h) = Memᴰ·append-left _ (in-passing (readsNow t) t s inside h)
+      now (inr h) = Memᴰ·append-right (readers t) (Memᴰ·append-left _ (in-passing (changesNow t) t s inside h))
 
       go : Dec (T ≡ t) → BelongsTo T s → (suc t ≤ T → List·Memᴰ (record { request = s; moment = T }) (orderFrom n (suc t)))
           → List·Memᴰ (record { request = s; moment = T }) (orderFrom (suc n) t)
-      go (yes e) b rest = rw e (now (subst (λ (i : ℕ). BelongsTo i s) e b))
-      go (no e) b rest = in-second _ (placedAt start calls t (readers t)) _ (in-second _ (placedAt start calls t (changers t)) _ (rest (omega arith)))
+      go (yes e) b rest = rw e (now (rw e at b))
+      go (no e) b rest = Memᴰ·append-right (readers t) (Memᴰ·append-right (changers t) (rest (omega arith)))
 
   pub order-sorted : (n t : ℕ) → InOrder start calls (orderFrom n t)
   unfolding orderFrom
   order-sorted zero t = no-entry
   order-sorted (suc n) t =
-      placed-in-order start calls t (readers t) _ (λ q m. elim (in-either q (placedAt start calls t (changers t)) (orderFrom n (suc t)) m) [
-        | inl k ↦ omega (arith, of-placed start calls t (changers t) q k .0)
+      placed-in-order start calls t (picked (readsNow t) (length calls)) _
+      (λ q m. elim (List·Memᴰ·append-cases (changers t) {t = orderFrom n (suc t)} m) [
+        | inl k ↦ omega (arith, passes (changesNow t) t q k .now)
         | inr k ↦ omega (arith, stands n (suc t) q k .from)
       ])
-      (placed-in-order start calls t (changers t) (orderFrom n (suc t)) (λ q m. omega (arith, stands n (suc t) q m .from)) (order-sorted n (suc t)))
+      (placed-in-order start calls t (picked (changesNow t) (length calls)) (orderFrom n (suc t))
+      (λ q m. omega (arith, stands n (suc t) q m .from))
+      (order-sorted n (suc t)))
 
   pub order-once : (n t : ℕ) → Once start calls (orderFrom n t)
   unfolding orderFrom
   order-once zero t = nobody
   order-once (suc n) t =
-      once-append start calls (placedAt start calls t (readers t)) _ (placed-once start calls t (readers t) (picked-distinct (readsNow t) (length calls)))
-      (once-append start calls (placedAt start calls t (changers t)) (orderFrom n (suc t))
-      (placed-once start calls t (changers t) (picked-distinct (changesNow t) (length calls))) (order-once n (suc t))
-      (λ p q m k e. later p q (inr (changer p m .1)) (changer p m .0) (stands n (suc t) q k) e))
-      (λ p q m k e. elim (in-either q (placedAt start calls t (changers t)) (orderFrom n (suc t)) k) [
-        | inl h ↦ one-way (p .request) t t (reader p m .1) (rw e (changer q h .1))
-        | inr h ↦ later p q (inl (reader p m .1)) (reader p m .0) (stands n (suc t) q h) e
+      once-append start calls (readers t) _ (passing-once (readsNow t) t)
+      (once-append start calls (changers t) (orderFrom n (suc t)) (passing-once (changesNow t) t) (order-once n (suc t))
+      (λ p q m k e.
+      let r = passes (changesNow t) t p m in
+      later p q (inr (r .passed)) (r .now) (stands n (suc t) q k) e))
+      (λ p q m k e.
+      let r = passes (readsNow t) t p m in
+      elim (List·Memᴰ·append-cases (changers t) k) [
+        | inl h ↦ one-way (p .request) t t (r .passed) (rw e (passes (changesNow t) t q h .passed))
+        | inr h ↦ later p q (inl (r .passed)) (r .now) (stands n (suc t) q h) e
       ])
     where
-      reader : (p : Placed start calls) → List·Memᴰ p (placedAt start calls t (readers t)) → (p .moment ≡ t) × (readsNow t (p .request) ≡ true)
-      reader p m =
-          let h = of-placed start calls t (readers t) p m in
-          (h .0, picked-passes (readsNow t) (p .request) (length calls) (h .1) .1)
-
-      changer : (p : Placed start calls) → List·Memᴰ p (placedAt start calls t (changers t)) → (p .moment ≡ t) × (changesNow t (p .request) ≡ true)
-      changer p m =
-          let h = of-placed start calls t (changers t) p m in
-          (h .0, picked-passes (changesNow t) (p .request) (length calls) (h .1) .1)
-
       later : (p q : Placed start calls) → BelongsTo t (p .request) → p .moment ≡ t → Stands n (suc t) q → p .request ≡ q .request → ⊥
       later p q b at s e =
           let same = one-step (p .request) t (q .moment) b (rw e (s .belongs)) in
@@ -203,7 +218,8 @@ module _ {top : ℕ} {start : Catalogue} {calls : List Call} (ready : Ready top 
 
   change-entry : (s T : ℕ) → Change ready s T → Entry start calls (record { request = s; moment = T })
   change-entry s T (adds w code key element e) = is-finished w code key element T _ (e .running .request) (e .finished) (omega arith)
-  change-entry s T (removes w code key element y r is some unmarked marked) = go (outcome ready s w code key element T y r is some unmarked marked)
+  change-entry s T (removes w code key element y r is some unmarked marked) =
+      go (outcome ready s w code key element T y r is some unmarked marked)
     where
       go : Outcome ready s w code key element T y → Entry start calls (record { request = s; moment = T })
       go (finishes f h e) = is-finished w code key element f _ (r .request) (e .finished) h
@@ -219,7 +235,8 @@ module _ {top : ℕ} {start : Catalogue} {calls : List Call} (ready : Ready top 
   entry-of p (inr h) = change-entry (p .request) (p .moment) (changes-now (p .moment) (p .request) h)
   entry-of p (inl h) =
       let r = reads-now (p .moment) (p .request) h in
-      is-finished (r .worker) (r .code) (r .key) (r .element) (r .finish) (r .answer) (r .ends-so .running .request) (r .ends-so .finished) (r .until)
+      is-finished (r .worker) (r .code) (r .key) (r .element) (r .finish) (r .answer) (r .ends-so .running .request)
+      (r .ends-so .finished) (r .until)
 
   pub moment-of : (p : Placed start calls) → BelongsTo (p .moment) (p .request) → Moment start calls p
   moment-of p (inr h) = change-moment (p .request) (p .moment) (changes-now (p .moment) (p .request) h)

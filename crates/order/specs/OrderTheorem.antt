@@ -1,32 +1,33 @@
--- Demand 3, proved: for any calls from the empty catalogue; and from any state in which no worker is busy, the rows have their structure and
--- no flag is without an owner, with the map of its chain.
+-- Demand 3, proved: for any calls from the empty catalogue; and from any state in which no worker is busy, the rows have their structure
+-- and no flag is without an owner, with the map of its chain.
 use Prim.Native.Nat.{ℕ, _+_, _≤_, _<_}
 use mathlib.Core.Bool.{true, false}
-use mathlib.Core.Path.{_≡_, refl, ap, sym, _∙_, subst}
+use mathlib.Core.Path.{_≡_, refl, sym, _∙_, subst}
 use mathlib.Core.List.{List, List·Memᴰ}
 use mathlib.Core.Option.{Option, none, some}
 use native.Mathlib.Omega.{arith}
 use lib.ListN.{length}
-use Rattle.order.specs.Basics.{clash}
-use Rattle.order.specs.Table.{flagOf}
+use Rattle.order.specs.Table.{flagOf, tableOf}
 use Rattle.order.specs.Structure.{Structure}
 use Rattle.order.specs.TableMap.{Has, shown-has, has-shown}
 use Rattle.order.specs.Walk.{walk-meets-chain}
 use Rattle.order.specs.PlainMap.{PlainMap, emptyMap}
 use Rattle.order.specs.MapOfTable.{Entry, IsMapOf, empty-map, map-has}
-use Rattle.order.specs.Sound.{Sound, empty-sound, all-fresh}
-use Rattle.order.specs.SoundKept.{KeysFit, topOver, keys-fit, top-positive}
-use Rattle.order.specs.Owners.{Owned, empty-owned}
+use Rattle.order.specs.Sound.{Sound, empty-sound}
+use Rattle.order.specs.SoundKept.{KeysFit}
+use Rattle.order.specs.Owners.{Owned}
 use Rattle.order.specs.Reached.{empty-ready}
 use Rattle.order.specs.Demand.{stateAt, Placed, Ordered, FullExactly, UnmarkedSave, HoldsTheChain, DemandThree}
-use Rattle.order.specs.Time.{Ready, state-end, sound-at, owned-at, structure-at}
+use Rattle.order.specs.Time.{Ready, state-end, sound-at, owned-at, structure-at, RowsAt}
 use Rattle.order.specs.MapAt.{mapAt, is-map-at, is-the-map}
-use Rattle.order.specs.Causes.{idle-removes-none}
 use Rattle.order.specs.Placing.{once-at}
 use Rattle.order.specs.OrderOfRun.{orderFrom, HasPlace, has-place, stands, in-order-from, order-sorted, order-once, entry-of, moment-of}
 use Rattle.order.specs.Replay.{order-replays}
 use Rattle.order.specs.FullAnswer.{full-exactly}
-use Rattle.model.specs.State.{rowAt, workerAt, idle, emptyCatalogue}
+use Rattle.order.specs.Lawful.{idle-removes-none}
+use Rattle.kept.specs.Conditions.{clash, contradiction}
+use Rattle.kept.specs.Ways.{lineOf}
+use Rattle.model.specs.State.{rowAt, idle, emptyCatalogue}
 use Rattle.model.specs.Run.{run}
 use Rattle.model.specs.declared.Row.{Row}
 use Rattle.model.specs.declared.Catalogue.{Catalogue}
@@ -42,6 +43,7 @@ module _ {top : ℕ} (rows : List Row) (small : length rows ≤ 128) (sound : St
         row = s .row;
         met = s .met;
         save = walk-meets-chain rows small sound .met-save (s .row) (s .met);
+        linked = walk-meets-chain rows small sound .met-linked (s .row) (s .met);
         unmarked = s .unmarked;
         has-key = s .key;
         has-element = s .element;
@@ -49,17 +51,19 @@ module _ {top : ℕ} (rows : List Row) (small : length rows ≤ 128) (sound : St
 
   was-saved : (k e : ℕ) → UnmarkedSave rows k e → Has (rowAt rows) k e
   was-saved k e u =
-      shown-has rows small sound k e (record { row = u .row; met = u .met; unmarked = u .unmarked; key = u .has-key; element = u .has-element })
+      shown-has rows small sound k e
+      (record { row = u .row; met = u .met; unmarked = u .unmarked; key = u .has-key; element = u .has-element })
 
   -- the map of the table holds exactly the unmarked saves on the chain
   pub map-holds-chain : (m : PlainMap) → IsMapOf (rowAt rows) m → HoldsTheChain m rows
-  map-holds-chain m is key element = (λ q. saved key element (go (m key) refl (is .entry key) q), λ u. map-has sound is key element (was-saved key element u))
+  map-holds-chain m is key element =
+      (λ q. saved key element (go (m key) refl (is .entry key) q), λ u. map-has sound is key element (was-saved key element u))
     where
       go : (o : Option ℕ) → m key ≡ o → Entry (rowAt rows) key o → m key ≡ some element → Has (rowAt rows) key element
-      go none e h q = let z : _≡_ {A = ℕ} 0 1 = cc in absurd (omega arith)
+      go none e h q = contradiction (cc)
       go (some x) e h q =
           let same : x ≡ element = cc in
-          subst (Has (rowAt rows) key) same h
+          rw same at h
 
   -- and a map that does is the map of the table
   pub chain-held-is-map : (m : PlainMap) → HoldsTheChain m rows → IsMapOf (rowAt rows) m
@@ -69,10 +73,10 @@ module _ {top : ℕ} (rows : List Row) (small : length rows ≤ 128) (sound : St
       go k (some e) is = was-saved k e (holds k e .0 is)
       go k none is = record {
         none = λ row regular save key.
-            let has : Has (rowAt rows) k (rowAt rows row .element) = record { row = row; regular = regular; save = save; key = key; element = refl } in
+            let has : Has (rowAt rows) k (rowAt rows row .element) =
+            record { row = row; regular = regular; save = save; key = key; element = refl } in
             let held = holds k (rowAt rows row .element) .1 (saved k (rowAt rows row .element) has) in
-            let z : _≡_ {A = ℕ} 0 1 = cc in
-            omega arith;
+            contradiction (cc);
       }
 
 -- ---- Any run that may begin ----
@@ -107,29 +111,30 @@ pub record DemandFrom (start : Catalogue) (calls : List Call) (before : PlainMap
   pub ends : HoldsTheChain after (run start calls .rows)
   pub full : FullExactly start calls
 
-pub demand-from : {top : ℕ} (start : Catalogue) (calls : List Call) (before : PlainMap) → Ready top start calls → HoldsTheChain before (start .rows)
+pub demand-from : {top : ℕ} (start : Catalogue) (calls : List Call) (before : PlainMap) → Ready top start calls
+    → HoldsTheChain before (start .rows)
     → DemandFrom start calls before
 unfolding stateAt run
 demand-from start calls before ready holds = record {
   after = mapAt ready (length calls);
-  ordered = subst (λ (m : PlainMap). Ordered start calls m (mapAt ready (length calls))) (sym first) (run-ordered ready);
+  ordered = rw first (run-ordered ready);
   ends = subst (λ (c : Catalogue). HoldsTheChain (mapAt ready (length calls)) (c .rows)) (state-end start calls)
-      (map-holds-chain (stateAt start calls (length calls) .rows) (omega (arith, sound-at ready (length calls) .row-count)) (structure-at ready (length calls))
-      (mapAt ready (length calls)) (is-map-at ready (length calls)));
+      (map-holds-chain (RowsAt ready (length calls)) (omega (arith, sound-at ready (length calls) .sizes .rows))
+      (structure-at ready (length calls)) (mapAt ready (length calls)) (is-map-at ready (length calls)));
   full = full-exactly ready;
 }
   where
     first : before ≡ mapAt ready 0
     first = is-the-map ready 0 before
-        (chain-held-is-map (start .rows) (omega (arith, ready .sound .row-count)) (ready .sound .structure) before holds)
+        (chain-held-is-map (start .rows) (omega (arith, ready .sound .sizes .rows)) (ready .sound .structure) before holds)
 
 -- ---- States at rest ----
 
 abbrev pub AllIdle : Catalogue → Type 0
-AllIdle c = (w : ℕ) → idle (workerAt (c .workers) w .line) ≡ true
+AllIdle c = (w : ℕ) → idle (lineOf c w) ≡ true
 
 abbrev pub NoneFlagged : Catalogue → Type 0
-NoneFlagged c = (x : ℕ) → flagOf (rowAt (c .rows)) x ≡ false
+NoneFlagged c = (x : ℕ) → flagOf (tableOf c) x ≡ false
 
 -- a sound state at rest, in which no flag is set
 pub rest-ready : {top : ℕ} {start : Catalogue} {calls : List Call} → Sound top start → AllIdle start → NoneFlagged start → KeysFit top calls
@@ -139,13 +144,14 @@ rest-ready {start = start} sound at-rest unflagged fits = record {
   owned = record {
     owner = λ p h. absurd (clash h (unflagged p));
     only = λ u v row some mine theirs.
-        absurd (some (sym mine ∙ idle-removes-none (workerAt (start .workers) u .line) (at-rest u)));
+        absurd (some (sym mine ∙ idle-removes-none (lineOf start u) (at-rest u)));
   };
   at-rest = at-rest;
   fits = fits;
 }
 
-pub demand-at-rest : {top : ℕ} (start : Catalogue) (calls : List Call) (before : PlainMap) → Sound top start → AllIdle start → NoneFlagged start
+pub demand-at-rest : {top : ℕ} (start : Catalogue) (calls : List Call) (before : PlainMap) → Sound top start → AllIdle start
+    → NoneFlagged start
     → KeysFit top calls → HoldsTheChain before (start .rows) → DemandFrom start calls before
 demand-at-rest start calls before sound at-rest unflagged fits holds =
     demand-from start calls before (rest-ready sound at-rest unflagged fits) holds
@@ -154,7 +160,7 @@ demand-at-rest start calls before sound at-rest unflagged fits holds =
 pub ready-again : {top : ℕ} {start : Catalogue} {calls : List Call} (more : List Call) → Ready top start calls → AllIdle (run start calls)
     → KeysFit top more → Ready top (run start calls) more
 ready-again {top} {start} {calls} more ready at-rest fits = record {
-  sound = subst (Sound top) (state-end start calls) (sound-at ready (length calls));
+  sound = rw (state-end start calls) at (sound-at ready (length calls));
   owned = subst Owned (state-end start calls) (owned-at ready (length calls));
   at-rest = at-rest;
   fits = fits;

@@ -6,23 +6,23 @@ use mathlib.Core.Logic.{_≢_}
 use mathlib.Core.List.{List, [], _∷_}
 use native.Mathlib.Decide.{ℕ-discrete}
 use lib.Dec.{eqb}
-use Rattle.order.specs.Basics.{clash}
-use Rattle.order.specs.Table.{Table, rightOf, flagOf}
+use Rattle.order.specs.Table.{Table, rightOf, flagOf, tableOf}
 use Rattle.order.specs.Structure.{Structure, Helpable, flagged-for, already-marked}
 use Rattle.order.specs.StructureFacts.{above-not-head, flagged-right-above, predecessor-unique, flagged-not-tail}
 use Rattle.order.specs.Moves.{Move, nothing, links, marks, unlinks, flags, backlinks, private, FlagMove}
 use Rattle.order.specs.EmptyTable.{empty-unflagged}
-use Rattle.order.specs.Stack.{stackOf}
+use Rattle.order.specs.Stack.{stackIn}
 use Rattle.order.specs.Facts.{AllHold, pendingFacts, facts}
 use Rattle.order.specs.LineKnows.{running-help}
-use Rattle.order.specs.Lawful.{Removal, goes-on, claims, ends, noRowRemoved, removedInHelp, removedRow}
-use Rattle.order.specs.Events.{Event, refused, submitted, stepped, Submitted, StepTaken, effectIn, each-worker}
+use Rattle.order.specs.Lawful.{Removal, goes-on, claims, ends, noRowRemoved, removedInHelp, removedRow, idle-removes-none}
+use Rattle.order.specs.Events.{Event, refused, submitted, stepped, Submitted, StepTaken, each-worker, next-line, other-line}
 use Rattle.order.specs.Sound.{Sound, all-fresh}
 use Rattle.order.specs.SoundKept.{step-lawful}
-use Rattle.model.specs.State.{rowAt, workerAt, idle, emptyCatalogue}
-use Rattle.model.specs.Answers.{line-after}
+use Rattle.kept.specs.Conditions.{clash}
+use Rattle.kept.specs.Ways.{effectIn, lineOf}
+use Rattle.model.specs.State.{rowAt, emptyCatalogue}
 use Rattle.model.specs.Choices.{if-both}
-use Rattle.model.specs.Step.{written, firstLine}
+use Rattle.model.specs.Step.{firstLine}
 use Rattle.model.specs.declared.Row.{Row}
 use Rattle.model.specs.declared.Worker.{Worker}
 use Rattle.model.specs.declared.Catalogue.{Catalogue}
@@ -36,14 +36,14 @@ use Rattle.model.specs.declared.Call.{Call}
 
 -- the row that worker w removes
 abbrev pub removedBy : Catalogue → ℕ → ℕ
-removedBy c w = removedRow (workerAt (c .workers) w .line)
+removedBy c w = removedRow (lineOf c w)
 
 pub record Owner (c : Catalogue) (row : ℕ) : Type 0 where
   pub worker : ℕ
   pub removes : removedBy c worker ≡ row
 
 pub record Owned (c : Catalogue) : Type 0 where
-  pub owner : (p : ℕ) → flagOf (rowAt (c .rows)) p ≡ true → Owner c (rightOf (rowAt (c .rows)) p)
+  pub owner : (p : ℕ) → flagOf (tableOf c) p ≡ true → Owner c (rightOf (tableOf c) p)
   pub only : (u v row : ℕ) → row ≢ noRowRemoved → removedBy c u ≡ row → removedBy c v ≡ row → u ≡ v
 
 -- ---- An owner's outermost help ----
@@ -63,7 +63,7 @@ helpedFrom (Help l f) hs = outermostPrev hs (f .prev)
 module _ (top w : ℕ) (R : Table) where
   outermost-help : (key element target : ℕ) (hs : List Pending) (prev del : ℕ) → Helpable R prev del
       → AllHold top w R (pendingFacts key element (Delete6 target true) hs prev del) → Helpable R (outermostPrev hs prev) target
-  outermost-help key element target [] prev del help (same, _) = subst (Helpable R prev) same help
+  outermost-help key element target [] prev del help (same, _) = rw same at help
   outermost-help key element target (h ∷ hs) prev del help (_, (helping, rest)) =
       outermost-help key element target hs (h .prev) (h .del) (helping .help) rest
 
@@ -89,7 +89,8 @@ module _ (top w : ℕ) (R : Table) where
 -- ---- Every event keeps the owners ----
 
 -- a flag that stays keeps its row
-flag-keeps-right : {top u : ℕ} {R R' : Table} → Move top u R R' → (p : ℕ) → flagOf R p ≡ true → flagOf R' p ≡ true → rightOf R' p ≡ rightOf R p
+flag-keeps-right : {top u : ℕ} {R R' : Table} → Move top u R R' → (p : ℕ) → flagOf R p ≡ true → flagOf R' p ≡ true
+    → rightOf R' p ≡ rightOf R p
 flag-keeps-right (nothing e) p h h' = cc
 flag-keeps-right (links m) p h h' = m .right-other p (λ e. clash h (cc (m .prev-unflagged))) (λ e. clash h (cc (m .new-unflagged)))
 flag-keeps-right (marks m) p h h' = m .right= p
@@ -112,18 +113,11 @@ first-removes-none code key element =
     if-both (λ (l : Line). removedRow l ≡ noRowRemoved) (eqb code 1) refl
     (if-both (λ (l : Line). removedRow l ≡ noRowRemoved) (eqb code 2) refl refl)
 
-idle-removes-none : (l : Line) → idle l ≡ true → removedRow l ≡ noRowRemoved
-idle-removes-none (Idle a) h = refl
-idle-removes-none (Search l f) h = refl
-idle-removes-none (Insert l f) h = refl
-idle-removes-none (Flag l f) h = refl
-idle-removes-none (Help l f) h = absurd (clash h refl)
-
 -- the same rows flagged, and every worker removes what it removed
 same-owners : {c c' : Catalogue} → c' .rows ≡ c .rows → ((v : ℕ) → removedBy c' v ≡ removedBy c v) → Owned c → Owned c'
 same-owners {c} {c'} rows same owned = record {
   owner = λ p h.
-      let o = owned .owner p (subst (λ (rows : List Row). flagOf (rowAt rows) p ≡ true) rows h) in
+      let o = owned .owner p (rw rows at h) in
       record { worker = o .worker; removes = same (o .worker) ∙ o .removes ∙ ap (λ (rows : List Row). rightOf (rowAt rows) p) (sym rows) };
   only = λ u v row some mine theirs. owned .only u v row some (sym (same u) ∙ mine) (sym (same v) ∙ theirs);
 }
@@ -132,20 +126,20 @@ module _ {top : ℕ} {c c' : Catalogue} (sound : Sound top c) (owned : Owned c) 
   submit-keeps-owned : (w code key element : ℕ) → Submitted c c' w code key element → Owned c'
   submit-keeps-owned w code key element s = same-owners {c = c} {c' = c'} (s .rows-same)
       (each-worker (s .worker) (λ v k. removedRow (k .line) ≡ removedBy c v)
-      (first-removes-none code key element ∙ sym (idle-removes-none (workerAt (c .workers) w .line) (s .was-idle)))
+      (first-removes-none code key element ∙ sym (idle-removes-none (lineOf c w) (s .was-idle)))
       (λ v differ. refl))
       owned
 
   -- worker w removed `before` and now removes `after`
   module _ (w : ℕ) (s : StepTaken c c' w) where
     now-removes : removedBy c' w ≡ removedRow (effectIn c w .line)
-    now-removes = ap (λ (k : Worker). removedRow (k .line)) (s .worker .now) ∙ ap removedRow (line-after (workerAt (c .workers) w) (effectIn c w))
+    now-removes = ap removedRow (next-line s)
 
     still-removes : (v : ℕ) → v ≢ w → removedBy c' v ≡ removedBy c v
-    still-removes v differ = ap (λ (k : Worker). removedRow (k .line)) (s .worker .others v differ)
+    still-removes v differ = ap removedRow (other-line (s .worker) v differ)
 
     -- the owner of a flag that was there, unless it is w and has ended
-    kept-owner : (p : ℕ) (R' : Table) → Move top w (rowAt (c .rows)) R' → flagOf (rowAt (c .rows)) p ≡ true → flagOf R' p ≡ true
+    kept-owner : (p : ℕ) (R' : Table) → Move top w (tableOf c) R' → flagOf (tableOf c) p ≡ true → flagOf R' p ≡ true
         → (removedBy c w ≡ rightOf R' p → removedRow (effectIn c w .line) ≡ rightOf R' p) → Owner c' (rightOf R' p)
     kept-owner p R' m h h' goes =
         let o = owned .owner p h in
@@ -155,7 +149,7 @@ module _ {top : ℕ} {c c' : Catalogue} (sound : Sound top c) (owned : Owned c) 
           | no e ↦ record { worker = o .worker; removes = still-removes (o .worker) e ∙ o .removes ∙ sym same }
         ]
 
-    step-owner : (R' : Table) → Move top w (rowAt (c .rows)) R' → Removal (rowAt (c .rows)) R' (removedBy c w) (removedRow (effectIn c w .line))
+    step-owner : (R' : Table) → Move top w (tableOf c) R' → Removal (tableOf c) R' (removedBy c w) (removedRow (effectIn c w .line))
         → (p : ℕ) → flagOf R' p ≡ true → Owner c' (rightOf R' p)
     step-owner R' m (goes-on same no-new) p h = kept-owner p R' m (no-new p h) h (λ e. same ∙ e)
     step-owner R' m (ends none no-new gone) p h = kept-owner p R' m (no-new p h) h (λ e. absurd (gone p h (sym e)))
@@ -163,26 +157,25 @@ module _ {top : ℕ} {c c' : Catalogue} (sound : Sound top c) (owned : Owned c) 
       | yes e ↦ record { worker = w; removes = now-removes ∙ sym (ap (rightOf R') e ∙ claim .right= prev ∙ claim .prev-right) }
       | no e ↦
           let was = sym (claim .flag-other p e) ∙ h in
-          kept-owner p R' m was h (λ q. absurd (above-not-head top (rowAt (c .rows)) p (rightOf (rowAt (c .rows)) p)
+          kept-owner p R' m was h (λ q. absurd (above-not-head top (tableOf c) p (rightOf (tableOf c) p)
           (flagged-right-above (sound .structure) p was) (sym (claim .right= p) ∙ sym q ∙ none)))
     ]
 
     -- w and another worker
-    not-shared : (R' : Table) → Removal (rowAt (c .rows)) R' (removedBy c w) (removedRow (effectIn c w .line)) → (v row : ℕ) → v ≢ w
+    not-shared : (R' : Table) → Removal (tableOf c) R' (removedBy c w) (removedRow (effectIn c w .line)) → (v row : ℕ) → v ≢ w
         → row ≢ noRowRemoved → removedRow (effectIn c w .line) ≡ row → removedBy c v ≡ row → ⊥
     not-shared R' (goes-on same no-new) v row differ some mine theirs =
         differ (owned .only v w row some theirs (sym same ∙ mine))
     not-shared R' (ends none no-new gone) v row differ some mine theirs = some (sym mine ∙ none)
     not-shared R' (claims claim none) v row differ some mine theirs =
-        claim-free (sound .structure) claim (subst (Helpable (rowAt (c .rows)) (helpedFrom (workerAt (c .workers) v .line) (stackOf (workerAt (c .workers) v))))
-        (theirs ∙ sym mine)
-        (removed-helpable top v (rowAt (c .rows)) (workerAt (c .workers) v .line) (stackOf (workerAt (c .workers) v)) (sound .known v)
-        (λ e. some (sym theirs ∙ e))))
+        let help = removed-helpable top v (tableOf c) (lineOf c v) (stackIn c v) (sound .known v) (λ e. some (sym theirs ∙ e)) in
+        claim-free (sound .structure) claim (rw (theirs ∙ sym mine) at help)
 
     step-keeps-owned : Owned c'
     step-keeps-owned = record {
-      owner = subst (λ (rows : List Row). (p : ℕ) → flagOf (rowAt rows) p ≡ true → Owner c' (rightOf (rowAt rows) p)) (sym (s .rows-written))
-          (step-owner (rowAt (written (c .rows) (effectIn c w .write))) (step-lawful top c c' sound w s .move) (step-lawful top c c' sound w s .removal));
+      owner =
+          subst (λ (rows : List Row). (p : ℕ) → flagOf (rowAt rows) p ≡ true → Owner c' (rightOf (rowAt rows) p)) (sym (s .rows-written))
+          (step-owner _ (step-lawful top c c' sound w s .move) (step-lawful top c c' sound w s .removal));
       only = λ u v row some mine theirs. one u v row some mine theirs (ℕ-discrete u w) (ℕ-discrete v w);
     }
       where
@@ -192,10 +185,11 @@ module _ {top : ℕ} {c c' : Catalogue} (sound : Sound top c) (owned : Owned c) 
             (sym now-removes ∙ ap (removedBy c') (sym a) ∙ mine) (sym (still-removes v b) ∙ theirs))
         one u v row some mine theirs (no a) (yes b) = absurd (not-shared _ (step-lawful top c c' sound w s .removal) u row a some
             (sym now-removes ∙ ap (removedBy c') (sym b) ∙ theirs) (sym (still-removes u a) ∙ mine))
-        one u v row some mine theirs (no a) (no b) = owned .only u v row some (sym (still-removes u a) ∙ mine) (sym (still-removes v b) ∙ theirs)
+        one u v row some mine theirs (no a) (no b) =
+            owned .only u v row some (sym (still-removes u a) ∙ mine) (sym (still-removes v b) ∙ theirs)
 
 pub event-keeps-owned : {top : ℕ} {c : Catalogue} {x : Call} {s : Stepped} → Sound top c → Owned c → Event c x s → Owned (s .state)
-event-keeps-owned sound owned (refused r v same) = subst Owned (sym same) owned
+event-keeps-owned sound owned (refused r v same) = rw same owned
 event-keeps-owned sound owned (submitted w code key element small is v s') = submit-keeps-owned sound owned w code key element s'
 event-keeps-owned sound owned (stepped w small is v s') = step-keeps-owned sound owned w s'
 

@@ -6,8 +6,8 @@ use mathlib.Core.Logic.{_⊎_, inl, inr}
 use mathlib.Core.List.{List, [], _∷_, List·Memᴰ·head, List·Memᴰ·tail, List·Memᴰ·not-nil, List·Memᴰ·cases-cons}
 use native.Mathlib.Omega.{arith}
 use native.Mathlib.Decide.{ℕ-discrete}
-use Rattle.order.specs.Basics.{bool-cases}
 use Rattle.order.specs.Distinct.{Among, Distinct, no-number, one-more}
+use Rattle.kept.specs.Conditions.{bool-cases}
 use Rattle.model.specs.State.{if_then_else_}
 use Rattle.model.specs.Choices.{if-known}
 
@@ -35,7 +35,8 @@ module _ (p : ℕ → Bool) where
       more : (s < n) × (p s ≡ true) → (s < suc n) × (p s ≡ true)
       more (below, passes) = (omega arith, passes)
 
-      go : (p n ≡ true) ⊎ (p n ≡ false) → Among s (picked p (suc n)) → (Among s (picked p n) → (s < n) × (p s ≡ true)) → (s < suc n) × (p s ≡ true)
+      go : (p n ≡ true) ⊎ (p n ≡ false) → Among s (picked p (suc n)) → (Among s (picked p n) → (s < n) × (p s ≡ true))
+          → (s < suc n) × (p s ≡ true)
       go (inl yes-n) k rest = elim (List·Memᴰ·cases-cons (rw (yes-n, picked) at k)) [
         | inl e ↦ (omega arith, ap p e ∙ yes-n)
         | inr q ↦ more (rest q)

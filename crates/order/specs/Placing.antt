@@ -1,8 +1,8 @@
 -- Lists of requests with their moments: all of one step, lists put after one another, each request once, in the order of the moments.
 use Prim.Native.Nat.{ℕ, zero, suc, _≤_, _<_}
-use mathlib.Core.Path.{_≡_, refl, ap, sym, subst}
+use mathlib.Core.Path.{_≡_, refl, ap, sym}
 use mathlib.Core.Logic.{_≢_, _⊎_, inl, inr}
-use mathlib.Core.List.{List, [], _∷_, _++_, List·Memᴰ, List·Memᴰ·head, List·Memᴰ·tail, List·Memᴰ·not-nil, List·Memᴰ·cases-cons}
+use mathlib.Core.List.{List, [], _∷_, _++_, List·Memᴰ, List·Memᴰ·head, List·Memᴰ·tail, List·Memᴰ·not-nil, List·Memᴰ·cases-cons, List·Memᴰ·append-cases}
 use native.Mathlib.Omega.{arith}
 use lib.ListN.{length, getD}
 use Rattle.order.specs.Distinct.{Among, Distinct, no-number, one-more}
@@ -10,27 +10,10 @@ use Rattle.order.specs.Demand.{Placed, InOrder, one-entry, next-entry}
 use Rattle.model.specs.declared.Catalogue.{Catalogue}
 use Rattle.model.specs.declared.Call.{Call}
 
-module _ {A : Type 0} where
-  pub in-first : (x : A) (xs ys : List A) → List·Memᴰ x xs → List·Memᴰ x (xs ++ ys)
-  in-first x [] ys m = absurd (List·Memᴰ·not-nil m)
-  in-first x (y ∷ xs) ys m = elim (List·Memᴰ·cases-cons m) [ inl e ↦ List·Memᴰ·head e | inr k ↦ List·Memᴰ·tail (in-first x xs ys k) ]
-
-  pub in-second : (x : A) (xs ys : List A) → List·Memᴰ x ys → List·Memᴰ x (xs ++ ys)
-  in-second x [] ys m = m
-  in-second x (y ∷ xs) ys m = List·Memᴰ·tail (in-second x xs ys m)
-
-  pub in-either : (x : A) (xs ys : List A) → List·Memᴰ x (xs ++ ys) → List·Memᴰ x xs ⊎ List·Memᴰ x ys
-  in-either x [] ys m = inr m
-  in-either x (y ∷ xs) ys m = go (List·Memᴰ·cases-cons m) (λ k. in-either x xs ys k)
-    where
-      go : (x ≡ y) ⊎ List·Memᴰ x (xs ++ ys) → (List·Memᴰ x (xs ++ ys) → List·Memᴰ x xs ⊎ List·Memᴰ x ys) → List·Memᴰ x (y ∷ xs) ⊎ List·Memᴰ x ys
-      go (inl e) rest = inl (List·Memᴰ·head e)
-      go (inr k) rest = elim (rest k) [ inl h ↦ inl (List·Memᴰ·tail h) | inr h ↦ inr h ]
-
-  at-index : (xs : List A) (i : ℕ) (d : A) → i < length xs → List·Memᴰ (getD xs i d) xs
-  at-index [] i d h = absurd (omega arith)
-  at-index (x ∷ xs) zero d h = List·Memᴰ·head refl
-  at-index (x ∷ xs) (suc i) d h = List·Memᴰ·tail (at-index xs i d (omega arith))
+at-index : {A : Type 0} (xs : List A) (i : ℕ) (d : A) → i < length xs → List·Memᴰ (getD xs i d) xs
+at-index [] i d h = absurd (omega arith)
+at-index (x ∷ xs) zero d h = List·Memᴰ·head refl
+at-index (x ∷ xs) (suc i) d h = List·Memᴰ·tail (at-index xs i d (omega arith))
 
 module _ (start : Catalogue) (calls : List Call) where
   -- ---- Each once ----
@@ -45,7 +28,7 @@ module _ (start : Catalogue) (calls : List Call) where
   once-append zs ys nobody ys-once apart = ys-once
   once-append zs ys (also {p = p} {ps = xs} new xs-once) ys-once apart =
       also
-      (λ q m e. elim (in-either q xs ys m) [ inl k ↦ new q k e | inr k ↦ apart p q (List·Memᴰ·head refl) k (sym e) ])
+      (λ q m e. elim (List·Memᴰ·append-cases xs {t = ys} m) [ inl k ↦ new q k e | inr k ↦ apart p q (List·Memᴰ·head refl) k (sym e) ])
       (once-append xs ys xs-once ys-once (λ r q m k. apart r q (List·Memᴰ·tail m) k))
 
   pub once-at : {ps : List (Placed start calls)} → Once ps → (i j : ℕ) (d : Placed start calls) → i < length ps → j < length ps
@@ -92,7 +75,7 @@ module _ (start : Catalogue) (calls : List Call) where
   unfolding placedAt
   placed-once t zs no-number = nobody
   placed-once t zs (one-more {x = x} {xs = xs} new d) =
-      also (λ q m e. new (subst (λ (s : ℕ). Among s xs) e (of-placed t xs q m .1))) (placed-once t xs d)
+      also (λ q m e. new (rw e at (of-placed t xs q m .1))) (placed-once t xs d)
 
   -- the requests of one step, before others that are no earlier
   pub placed-in-order : (t : ℕ) (xs : List ℕ) (ps : List (Placed start calls)) → ((q : Placed start calls) → List·Memᴰ q ps → t ≤ q .moment)
@@ -101,5 +84,5 @@ module _ (start : Catalogue) (calls : List Call) where
   placed-in-order t [] ps low sorted = sorted
   placed-in-order t (x ∷ xs) ps low sorted =
       in-order-first _ (placedAt t xs ++ ps)
-      (λ q m. elim (in-either q (placedAt t xs) ps m) [ inl k ↦ omega (arith, of-placed t xs q k .0) | inr k ↦ low q k ])
+      (λ q m. elim (List·Memᴰ·append-cases (placedAt t xs) m) [ inl k ↦ omega (arith, of-placed t xs q k .0) | inr k ↦ low q k ])
       (placed-in-order t xs ps low sorted)

@@ -3,14 +3,21 @@
 use Prim.Native.Nat.{ℕ, _≤_, _<_}
 use mathlib.Core.Bool.{true}
 use mathlib.Core.Path.{_≡_, ap, _∙_}
-use mathlib.Core.Logic.{_≢_}
+use mathlib.Core.Logic.{_≢_, _⊎_, inl, inr}
 use native.Mathlib.Omega.{arith}
 use Rattle.model.specs.declared.Row.{Row}
 use Rattle.order.specs.Table.{Table, rightOf, markOf, flagOf, rank, rankOf, IsLinked, Regular}
 use Rattle.order.specs.Structure.{Structure}
 use Rattle.order.specs.Moves.{PrivateMove}
-use Rattle.order.specs.Basics.{clash, private-linked}
 use Rattle.order.specs.StructureFacts.{below-not-tail, flagged-right-linked, marked-not-tail}
+use Rattle.kept.specs.Conditions.{clash}
+use Rattle.kept.specs.Standing.{free-not-linked, held-not-linked}
+use Rattle.model.specs.declared.Standing.{Standing}
+use Rattle.model.specs.declared.Standing.the-variants.{Free, Held, Linked}
+
+private-linked : {s : Standing} {w : ℕ} → (s ≡ Free) ⊎ (s ≡ Held w) → s ≡ Linked → ⊥
+private-linked (inl free) linked = free-not-linked free linked
+private-linked (inr held) linked = held-not-linked held linked
 
 module _ {top w : ℕ} {R R' : Table} {new : ℕ} (sound : Structure top R) (move : PrivateMove w R R' new) where
   -- a row that is linked before or after is not the changed one

@@ -8,19 +8,20 @@ use mathlib.Core.List.{List}
 use native.Mathlib.Omega.{arith}
 use native.Mathlib.Decide.{decLt}
 use lib.ListN.{length, List·getD-eq-default}
-use Rattle.order.specs.Table.{rightOf, flagOf, standingOf}
+use Rattle.order.specs.Table.{rightOf, flagOf, standingOf, tableOf}
 use Rattle.order.specs.Structure.{Helpable, flagged-for}
 use Rattle.order.specs.StructureFacts.{above-not-head, flagged-right-above, help-unique}
 use Rattle.order.specs.Facts.{SaveOf}
-use Rattle.order.specs.Writes.{held-inside}
 use Rattle.order.specs.Lawful.{noRowRemoved, removedRow}
 use Rattle.order.specs.Memory.{operationOf}
 use Rattle.order.specs.LineKnows.{HoldingFor, Targets, named-is-held, target-known}
-use Rattle.order.specs.Events.{tableOf, lineOf, stackIn}
 use Rattle.order.specs.Sound.{Sound, empty-sound, all-fresh}
 use Rattle.order.specs.SoundKept.{topOver, keys-fit, top-positive}
 use Rattle.order.specs.Owners.{Owned, removedBy, helpedFrom, removed-helpable, empty-owned}
 use Rattle.order.specs.Time.{Ready, state-end, sound-at, owned-at}
+use Rattle.order.specs.Stack.{stackIn}
+use Rattle.kept.specs.Standing.{held-inside}
+use Rattle.kept.specs.Ways.{lineOf}
 use Rattle.model.specs.State.{workerAt, idleWorker, idle, emptyCatalogue}
 use Rattle.model.specs.WellFormed.{heldRow, noRowHeld}
 use Rattle.model.specs.Run.{run}
@@ -68,7 +69,7 @@ pub record FlagOwner (c : Catalogue) (p : ℕ) : Type 0 where
 pub flag-owner : {top : ℕ} {c : Catalogue} → Reached top c → (p : ℕ) → flagOf (tableOf c) p ≡ true → FlagOwner c p
 flag-owner {top} {c} r p flagged = record {
   worker = u;
-  one-of-eight = omega (arith, removes-inside (c .workers) u some, r .sound .worker-count);
+  one-of-eight = omega (arith, removes-inside (c .workers) u some, r .sound .sizes .workers);
   removes = r .owned .owner p flagged .removes;
   outermost = help-unique (r .sound .structure) _ p (rightOf (tableOf c) p) help (flagged-for flagged refl);
   only = λ v removes. r .owned .only v u (rightOf (tableOf c) p) not-head removes (r .owned .owner p flagged .removes);
@@ -84,7 +85,7 @@ flag-owner {top} {c} r p flagged = record {
     some e = not-head (sym (r .owned .owner p flagged .removes) ∙ e)
 
     help : Helpable (tableOf c) (helpedFrom (lineOf c u) (stackIn c u)) (rightOf (tableOf c) p)
-    help = subst (Helpable (tableOf c) _) (r .owned .owner p flagged .removes)
+    help = rw (r .owned .owner p flagged .removes) at
         (removed-helpable top u (tableOf c) (lineOf c u) (stackIn c u) (r .sound .known u) some)
 
 pub reached-flag-owner : (calls : List Call) (p : ℕ) → flagOf (tableOf (run emptyCatalogue calls)) p ≡ true
@@ -103,14 +104,13 @@ module _ {top : ℕ} {c : Catalogue} (sound : Sound top c) where
   pub named-for-insert : (w x : ℕ) → Names c w x → HoldingFor w (tableOf c) x (operationOf (lineOf c w))
   named-for-insert w x n =
       let some : heldRow (lineOf c w) ≢ noRowHeld = λ e. omega (arith, n .is-row, n .names, e) in
-      subst (λ (y : ℕ). HoldingFor w (tableOf c) y (operationOf (lineOf c w))) (n .names)
-      (named-is-held top w (tableOf c) (lineOf c w) (stackIn c w) (sound .known w) some)
+      rw (n .names) at (named-is-held top w (tableOf c) (lineOf c w) (stackIn c w) (sound .known w) some)
 
   pub held-exactly : (w x : ℕ) → (standingOf (tableOf c) x ≡ Held w) ↔ Names c w x
   held-exactly w x = (only-if, λ n. named-for-insert w x n .holding .held)
     where
       only-if : standingOf (tableOf c) x ≡ Held w → Names c w x
-      only-if held = record { is-row = omega (arith, held-inside (c .rows) x w held, sound .row-count); names = sound .named w x held }
+      only-if held = record { is-row = omega (arith, held-inside (c .rows) x w held, sound .sizes .rows); names = sound .named w x held }
 
   -- no other worker names it
   pub one-holder : (v w x : ℕ) → Names c v x → Names c w x → v ≡ w

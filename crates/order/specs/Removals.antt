@@ -2,33 +2,33 @@
 -- afterwards or is a removal that is still unfinished at the end.
 use Prim.Native.Nat.{ℕ, suc, _≤_, _<_}
 use mathlib.Core.Bool.{Bool, true, false}
-use mathlib.Core.Path.{_≡_, refl, ap, sym, _∙_, subst}
+use mathlib.Core.Path.{_≡_, refl, ap, sym, _∙_}
 use mathlib.Core.Logic.{_≢_, _⊎_, inl, inr}
 use mathlib.Core.List.{List}
 use native.Mathlib.Omega.{arith}
 use lib.Dec.{eqb}
 use lib.ListN.{length}
 use borrow.Author.Tests.{eqb-false, leb-true}
-use Rattle.order.specs.Basics.{clash}
 use Rattle.order.specs.Table.{Table, markOf}
-use Rattle.order.specs.StructureFacts.{above-not-head, unflagged-right-unmarked}
+use Rattle.order.specs.StructureFacts.{unflagged-right-unmarked}
 use Rattle.order.specs.Facts.{SaveOf, AllHold, facts}
 use Rattle.order.specs.LineKnows.{Targets, in-help, targets-operation, target-known}
 use Rattle.order.specs.Stack.{stackOf}
 use Rattle.order.specs.Timeline.{marked-within}
 use Rattle.order.specs.PlainMap.{Operation, operation, search, insert, delete}
 use Rattle.order.specs.Lawful.{noRowRemoved, removedRow, removedInHelp}
-use Rattle.order.specs.Memory.{Answered, RemovesRow, operationOf}
+use Rattle.order.specs.Memory.{Answered, RemovesRow, operationOf, is-removed, none-removed}
 use Rattle.order.specs.Demand.{stateAt, lineAt, Request, SetFlag, Removing}
-use Rattle.order.specs.Time.{Ready, sound-at, structure-at, mover-at, move-at, submit-taken}
-use Rattle.order.specs.Running.{TableAt, removedAt, Claimed, Running, Ends}
+use Rattle.order.specs.Time.{Ready, sound-at, structure-at, mover-at, move-at, submit-taken, TableAt}
+use Rattle.order.specs.Running.{removedAt, Claimed, Running, Ends}
 use Rattle.order.specs.Courses.{ran}
+use Rattle.kept.specs.Conditions.{clash, contradiction}
 use Rattle.model.specs.State.{workerAt}
 use Rattle.model.specs.Step.{isRequest}
 use Rattle.model.specs.declared.Pending.{Pending}
 use Rattle.model.specs.declared.Catalogue.{Catalogue}
 use Rattle.model.specs.declared.Answer.{Answer}
-use Rattle.model.specs.declared.Answer.the-variants.{NoAnswer, Found, Absent, Added, Duplicate, Removed, Full}
+use Rattle.model.specs.declared.Answer.the-variants.{Absent, Removed}
 use Rattle.model.specs.declared.HelpCaller.{HelpCaller}
 use Rattle.model.specs.declared.HelpCaller.the-variants.{Insert8, Insert16, Delete6}
 use Rattle.model.specs.declared.HelpFrame.{HelpFrame}
@@ -46,7 +46,8 @@ pub record RemovesSave (R : Table) (o : Operation) (row : ℕ) : Type 0 where
   pub save : SaveOf R row key
 
 module _ (top w : ℕ) (R : Table) where
-  target-removed : (l : HelpLine) (f : HelpFrame) (hs : List Pending) (caller : HelpCaller) → f .caller ≡ caller → AllHold top w R (facts (Help l f) hs)
+  target-removed : (l : HelpLine) (f : HelpFrame) (hs : List Pending) (caller : HelpCaller) → f .caller ≡ caller
+      → AllHold top w R (facts (Help l f) hs)
       → removedInHelp caller ≢ noRowRemoved → RemovesSave R (operationOf (Help l f)) (removedInHelp caller)
   target-removed l f hs (Insert8 row new) e known some = absurd (some refl)
   target-removed l f hs (Insert16 row new) e known some = absurd (some refl)
@@ -75,9 +76,9 @@ delete-code code key element k known is = go (eqb code 0) refl (eqb code 1) refl
   where
     go : (a : Bool) → eqb code 0 ≡ a → (b : Bool) → eqb code 1 ≡ b → (c : Bool) → eqb code 2 ≡ c → DeleteCode code key k
     go true z b p c q = absurd (clash known (rw z refl))
-    go false z true p c q = let e : search key ≡ delete k = rw (p, operation) at is in let apart : _≡_ {A = ℕ} 0 1 = cc in absurd (omega arith)
+    go false z true p c q = let e : search key ≡ delete k = rw (p, operation) at is in contradiction (cc)
     go false z false p true q =
-        let e : insert key element ≡ delete k = rw (p, q, operation) at is in let apart : _≡_ {A = ℕ} 0 1 = cc in absurd (omega arith)
+        let e : insert key element ≡ delete k = rw (p, q, operation) at is in contradiction (cc)
     go false z false p false q =
         let e : delete key ≡ delete k = rw (p, q, operation) at is in
         let not-none : code ≢ 0 = eqb-false code 0 z in
@@ -98,16 +99,12 @@ module _ {top : ℕ} {start : Catalogue} {calls : List Call} (ready : Ready top 
 
   answer-removed : (w t u : ℕ) (R' : Table) (y k : ℕ) (a : Answer) → y ≢ noRowRemoved → Answered w (TableAt ready) t u R' y (delete k) a
       → (e : ℕ) × (a ≡ Removed e) × RemovesRow (TableAt ready u) y e
-  answer-removed w t u R' y k NoAnswer some h = absurd h
-  answer-removed w t u R' y k (Found e) some h = absurd h
-  answer-removed w t u R' y k Absent some h = absurd (some (h .0))
-  answer-removed w t u R' y k Added some h = absurd h
-  answer-removed w t u R' y k Duplicate some h = absurd h
-  answer-removed w t u R' y k (Removed e) some h = (e, refl, h)
-  answer-removed w t u R' y k Full some h = absurd h
+  answer-removed w t u R' y k Absent some (none-removed no-row h) = absurd (some no-row)
+  answer-removed w t u R' y k (Removed e) some (is-removed h) = (e, refl, h)
 
   -- a delete that removes row y ends with Removed and the element of y
-  pub removal-answer : (s w code key element f y : ℕ) (a : Answer) → Ends ready s w code key element f a → removedAt ready f w ≡ y → y ≢ noRowRemoved
+  pub removal-answer : (s w code key element f y : ℕ) (a : Answer) → Ends ready s w code key element f a → removedAt ready f w ≡ y
+      → y ≢ noRowRemoved
       → a ≡ Removed (TableAt ready f y .element)
   removal-answer s w code key element f y a e is some =
       let m = removes-save s w code key element f y (e .running) is some in
@@ -125,14 +122,12 @@ module _ {top : ℕ} {start : Catalogue} {calls : List Call} (ready : Ready top 
     pub unmarked : markOf (TableAt ready time) y ≡ false
     pub marked : markOf (TableAt ready (suc time)) y ≡ true
 
-  claim-not-head : {s w u y : ℕ} → Claimed ready s w u y → y ≢ noRowRemoved
-  claim-not-head {y = y} c = above-not-head top (TableAt ready (c .at)) (c .prev) y
-      (rw (c .flag .prev-right) at (structure-at ready (c .at) .right-above (c .prev) (c .flag .prev-regular .linked) (c .flag .prev-not-tail)))
-
-  claim-marked : (s w code key element u y : ℕ) → Running ready s w code key element u → Claimed ready s w u y → markOf (TableAt ready u) y ≡ true
+  claim-marked : (s w code key element u y : ℕ) → Running ready s w code key element u → Claimed ready s w u y
+      → markOf (TableAt ready u) y ≡ true
       → MarkedAt s w code key element u y
   claim-marked s w code key element u y r c marked =
-      let m = marked-within (TableAt ready) (mover-at ready) (structure-at ready) (move-at ready) (suc (c .at)) u y (c .before) clear marked in
+      let m = marked-within (TableAt ready) (mover-at ready) (structure-at ready) (move-at ready) (suc (c .at)) u y
+      (c .before) clear marked in
       let low : suc (c .at) ≤ m .time = m .after in
       record {
         time = m .time;
@@ -146,7 +141,8 @@ module _ {top : ℕ} {start : Catalogue} {calls : List Call} (ready : Ready top 
     where
       clear : markOf (TableAt ready (suc (c .at))) y ≡ false
       clear = c .flag .mark= y ∙ (rw (c .flag .prev-right) at
-          (unflagged-right-unmarked (structure-at ready (c .at)) (c .prev) (c .flag .prev-regular) (c .flag .prev-not-tail) (c .flag .prev-unflagged)))
+          (unflagged-right-unmarked (structure-at ready (c .at)) (c .prev) (c .flag .prev-regular) (c .flag .prev-not-tail)
+          (c .flag .prev-unflagged)))
 
   -- a running delete whose row is marked was marked at a step of its own time
   pub removal-marked : (s w code key element u y : ℕ) → Running ready s w code key element u → removedAt ready u w ≡ y → y ≢ noRowRemoved
@@ -155,7 +151,7 @@ module _ {top : ℕ} {start : Catalogue} {calls : List Call} (ready : Ready top 
     where
       go : (removedAt ready u w ≡ noRowRemoved) ⊎ Claimed ready s w u (removedAt ready u w) → MarkedAt s w code key element u y
       go (inl none) = absurd (some (sym is ∙ none))
-      go (inr c) = claim-marked s w code key element u y r (subst (Claimed ready s w u) is c) marked
+      go (inr c) = claim-marked s w code key element u y r (rw is at c) marked
 
   -- ---- A removal that is unfinished at the end ----
 
@@ -184,7 +180,7 @@ module _ {top : ℕ} {start : Catalogue} {calls : List Call} (ready : Ready top 
       let m = removes-save s w code key element u y r is some in
       let d = delete-code code key element (m .key) (submit-taken ready s w code key element (r .request) .is-request) (m .is-delete) in
       record {
-        request = subst (λ (c : ℕ). Request start calls s w c key element) (d .three) (r .request);
+        request = rw (d .three) at (r .request);
         operation-same = ap (λ (c : ℕ). operation c key element) (d .three);
       }
 
@@ -202,6 +198,6 @@ module _ {top : ℕ} {start : Catalogue} {calls : List Call} (ready : Ready top 
         request = deletes s w code key element (length calls) y r is some .request;
         unfinished = r .busy;
         row = y;
-        flagged = set-flag (subst (Claimed ready s w (length calls)) is c);
+        flagged = set-flag (rw is at c);
         marked = marked;
       }

@@ -7,13 +7,11 @@ use mathlib.Core.Logic.{_≢_, _⊎_, inl, inr}
 use mathlib.Core.List.{List, [], _∷_, _++_, List·Memᴰ·head, List·Memᴰ·tail, List·Memᴰ·not-nil}
 use native.Mathlib.Omega.{arith}
 use lib.ListN.{length}
-use Rattle.order.specs.Basics.{clash}
 use Rattle.order.specs.PlainMap.{PlainMap, operation, answerOf, afterAsking}
 use Rattle.order.specs.Asking.{Agrees}
 use Rattle.order.specs.Distinct.{Among, Distinct, one-more}
 use Rattle.order.specs.Demand.{Placed, Request, Finished, Removing, Replays, at-end, answers, is-full, removes as removes-entry}
-use Rattle.order.specs.Time.{Ready}
-use Rattle.order.specs.Running.{TableAt}
+use Rattle.order.specs.Time.{Ready, TableAt}
 use Rattle.order.specs.OneRequest.{same-request}
 use Rattle.order.specs.MapAt.{mapAt}
 use Rattle.order.specs.Moments.{reading}
@@ -23,6 +21,7 @@ use Rattle.order.specs.Fates.{ReadsAt}
 use Rattle.order.specs.Picked.{picked, in-picked, picked-passes, picked-distinct}
 use Rattle.order.specs.Placing.{placedAt}
 use Rattle.order.specs.OrderOfRun.{readsNow, changesNow, reads-now, changes-now, change-known, orderFrom}
+use Rattle.kept.specs.Conditions.{clash, contradiction}
 use Rattle.model.specs.declared.Catalogue.{Catalogue}
 use Rattle.model.specs.declared.Answer.{Answer}
 use Rattle.model.specs.declared.Answer.the-variants.{Added, Removed, Full}
@@ -58,18 +57,20 @@ module _ {top : ℕ} {start : Catalogue} {calls : List Call} (ready : Ready top 
       → Replays start calls (mapAt ready t) (record { request = s; moment = t } ∷ ps) n
   read-then {n} {ps} s t r rest = go (r .right)
     where
-      go : (r .answer ≡ Full) ⊎ ((reading (r .answer) ≡ true) × Agrees (mapAt ready t) (operation (r .code) (r .key) (r .element)) (r .answer) (mapAt ready t))
+      go : (r .answer ≡ Full) ⊎ ((reading (r .answer) ≡ true)
+          × Agrees (mapAt ready t) (operation (r .code) (r .key) (r .element)) (r .answer) (mapAt ready t))
           → Replays start calls (mapAt ready t) (record { request = s; moment = t } ∷ ps) n
       go (inl e) = is-full (r .worker) (r .code) (r .key) (r .element) (r .finish) (r .ends-so .running .request)
-          (subst (Finished start calls s (r .worker) (r .finish)) e (r .ends-so .finished)) rest
+          (rw e at (r .ends-so .finished)) rest
       go (inr (h, agrees)) =
-          answers-then _ (r .worker) (r .code) (r .key) (r .element) (r .finish) (r .answer) (r .ends-so .running .request) (r .ends-so .finished)
-          (reading-not-full h) agrees rest
+          answers-then _ (r .worker) (r .code) (r .key) (r .element) (r .finish) (r .answer)
+          (r .ends-so .running .request) (r .ends-so .finished) (reading-not-full h) agrees rest
 
-  change-then : {n : PlainMap} {ps : List (Placed start calls)} (s t : ℕ) → Change ready s t → Replays start calls (mapAt ready (suc t)) ps n
+  change-then : {n : PlainMap} {ps : List (Placed start calls)} (s t : ℕ) → Change ready s t
+      → Replays start calls (mapAt ready (suc t)) ps n
       → Replays start calls (mapAt ready t) (record { request = s; moment = t } ∷ ps) n
   change-then s t (adds w code key element e) rest =
-      answers-then _ w code key element t Added (e .running .request) (e .finished) (λ h. let z : _≡_ {A = ℕ} 0 1 = cc in omega arith)
+      answers-then _ w code key element t Added (e .running .request) (e .finished) (λ h. contradiction (cc))
       (add-agrees ready s w code key element t e) rest
   change-then {n} {ps} s t (removes w code key element y r is some unmarked marked) rest =
       go (outcome ready s w code key element t y r is some unmarked marked)
@@ -79,7 +80,7 @@ module _ {top : ℕ} {start : Catalogue} {calls : List Call} (ready : Ready top 
 
       go : Outcome ready s w code key element t y → Replays start calls (mapAt ready t) (record { request = s; moment = t } ∷ ps) n
       go (finishes f h e) =
-          answers-then _ w code key element f _ (r .request) (e .finished) (λ q. let z : _≡_ {A = ℕ} 0 1 = cc in omega arith) agrees rest
+          answers-then _ w code key element f _ (r .request) (e .finished) (λ q. contradiction (cc)) agrees rest
       go (stays m) = removes-then _ w code key element _ (r .request) m agrees rest
 
   -- ---- One step ----
@@ -88,17 +89,19 @@ module _ {top : ℕ} {start : Catalogue} {calls : List Call} (ready : Ready top 
       → Replays start calls (mapAt ready t) ps n → Replays start calls (mapAt ready t) (placedAt start calls t xs ++ ps) n
   unfolding placedAt
   reads-replay t [] read rest = rest
-  reads-replay t (s ∷ xs) read rest = read-then s t (read s (List·Memᴰ·head refl)) (reads-replay t xs (λ u m. read u (List·Memᴰ·tail m)) rest)
+  reads-replay t (s ∷ xs) read rest =
+      read-then s t (read s (List·Memᴰ·head refl)) (reads-replay t xs (λ u m. read u (List·Memᴰ·tail m)) rest)
 
   -- at most one request changes the map at a step, and if none does it stays
-  changes-replay : {n : PlainMap} {ps : List (Placed start calls)} (t : ℕ) (xs : List ℕ) → ((s : ℕ) → Among s xs → Change ready s t) → Distinct xs
+  changes-replay : {n : PlainMap} {ps : List (Placed start calls)} (t : ℕ) (xs : List ℕ) → ((s : ℕ) → Among s xs → Change ready s t)
+      → Distinct xs
       → ((s : ℕ) → Change ready s t → Among s xs) → Replays start calls (mapAt ready (suc t)) ps n
       → Replays start calls (mapAt ready t) (placedAt start calls t xs ++ ps) n
   unfolding placedAt
   changes-replay {n} {ps} t [] change d known rest = go (cause ready t)
     where
       go : Cause ready t → Replays start calls (mapAt ready t) ps n
-      go (same-map e) = subst (λ (m : PlainMap). Replays start calls m ps n) e rest
+      go (same-map e) = rw e at rest
       go (changed-by s c) = absurd (List·Memᴰ·not-nil (known s c))
   changes-replay t (s ∷ []) change d known rest = change-then s t (change s (List·Memᴰ·head refl)) rest
   changes-replay t (s ∷ u ∷ xs) change (one-more new d) known rest =

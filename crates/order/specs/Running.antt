@@ -2,28 +2,27 @@
 -- delete has set its flag, removes that row; and it ends with an answer that fits the operation and was right at a moment.
 use Prim.Native.Nat.{ℕ, suc, _≤_, _<_}
 use mathlib.Core.Bool.{Bool, true, false}
-use mathlib.Core.Path.{_≡_, refl, ap, sym, _∙_, subst}
+use mathlib.Core.Path.{_≡_, refl, ap, _∙_}
 use mathlib.Core.Logic.{_⊎_, inl, inr}
 use mathlib.Core.List.{List}
 use native.Mathlib.Omega.{arith}
 use native.Mathlib.Decide.{ℕ-discrete}
 use lib.Dec.{eqb}
-use Rattle.order.specs.Basics.{clash}
-use Rattle.order.specs.Table.{Table}
 use Rattle.order.specs.Moves.{FlagMove}
 use Rattle.order.specs.PlainMap.{Operation, operation, search, insert, delete}
 use Rattle.order.specs.Lawful.{Removal, goes-on, claims, ends, noRowRemoved, removedRow}
-use Rattle.order.specs.Events.{StepTaken, effectIn}
+use Rattle.order.specs.Events.{StepTaken, other-line, next-line}
 use Rattle.order.specs.SoundKept.{step-lawful}
 use Rattle.order.specs.Demand.{stateAt, lineAt, Accepts, Request, BusySince, Finished}
 use Rattle.order.specs.Memory.{Past, past-still, operationOf, Answered, GoesOn, NextLine, Tells}
 use Rattle.order.specs.LineMemory.{effect-tells}
-use Rattle.order.specs.Time.{Ready, Happening, nothing-happens, submits, steps, happening, sound-at, structure-at, mover-at, move-at, submit-taken}
+use Rattle.order.specs.Time.{Ready, Happening, nothing-happens, submits, steps, happening, sound-at, structure-at, mover-at, move-at, submit-taken, TableAt, RowsAt}
+use Rattle.order.specs.Table.{Table}
+use Rattle.kept.specs.Conditions.{clash}
+use Rattle.kept.specs.Ways.{effectIn, lineOf}
 use Rattle.model.specs.State.{if_then_else_, rowAt, workerAt, idle}
-use Rattle.model.specs.Answers.{line-after}
 use Rattle.model.specs.Effects.{callSearchFrom}
 use Rattle.model.specs.Step.{written, firstLine}
-use Rattle.model.specs.declared.Row.{Row}
 use Rattle.model.specs.declared.Worker.{Worker}
 use Rattle.model.specs.declared.Catalogue.{Catalogue}
 use Rattle.model.specs.declared.Answer.{Answer}
@@ -32,6 +31,7 @@ use Rattle.model.specs.declared.Line.{Line}
 use Rattle.model.specs.declared.Line.the-variants.{Idle, Search, Insert, Flag, Help}
 use Rattle.model.specs.declared.Call.{Call}
 use Rattle.model.specs.declared.Call.the-variants.{Step}
+use Rattle.model.specs.declared.Effect.{Effect}
 
 -- ---- The first line of a request ----
 
@@ -43,17 +43,16 @@ unfolding firstLine operation
 first-line P code key element s i d = go (eqb code 1) (eqb code 2)
   where
     go : (a b : Bool)
-        → P (if a then callSearchFrom key 0 0 Search1 else if b then callSearchFrom key element 0 Insert1 else callSearchFrom key 0 0 Delete1)
+        → P
+        (if a then callSearchFrom key 0 0 Search1
+        else if b then callSearchFrom key element 0 Insert1
+        else callSearchFrom key 0 0 Delete1)
         (if a then search key else if b then insert key element else delete key)
     go true b = s
     go false true = i
     go false false = d
 
 module _ {top : ℕ} {start : Catalogue} {calls : List Call} (ready : Ready top start calls) where
-  -- the table before the call at position i
-  abbrev pub TableAt : ℕ → Table
-  TableAt i = rowAt (stateAt start calls i .rows)
-
   -- the row that worker w removes
   abbrev pub removedAt : ℕ → ℕ → ℕ
   removedAt i w = removedRow (lineAt start calls i w)
@@ -65,7 +64,7 @@ module _ {top : ℕ} {start : Catalogue} {calls : List Call} (ready : Ready top 
     pub later : s < at
     pub before : at < u
     pub step : Accepts start calls at (Step w)
-    pub flag : FlagMove (TableAt at) (TableAt (suc at)) prev y
+    pub flag : FlagMove (TableAt ready at) (TableAt ready (suc at)) prev y
     pub removes : (j : ℕ) → at < j → j ≤ u → removedAt j w ≡ y
 
   -- the request submitted at s runs at position u
@@ -74,14 +73,14 @@ module _ {top : ℕ} {start : Catalogue} {calls : List Call} (ready : Ready top 
     pub since : s < u
     pub busy : BusySince start calls s w u
     pub operation-is : operationOf (lineAt start calls u w) ≡ operation code key element
-    pub past : Past TableAt (suc s) u (lineAt start calls u w)
+    pub past : Past (TableAt ready) (suc s) u (lineAt start calls u w)
     pub claim : (removedAt u w ≡ noRowRemoved) ⊎ Claimed s w u (removedAt u w)
 
   -- the request ends at f with answer a
   pub record Ends (s w code key element f : ℕ) (a : Answer) : Type 0 where
     pub running : Running s w code key element f
     pub finished : Finished start calls s w f a
-    pub answered : Answered w TableAt (suc s) f (TableAt (suc f)) (removedAt f w) (operation code key element) a
+    pub answered : Answered w (TableAt ready) (suc s) f (TableAt ready (suc f)) (removedAt f w) (operation code key element) a
 
   -- ---- It begins ----
 
@@ -93,11 +92,11 @@ module _ {top : ℕ} {start : Catalogue} {calls : List Call} (ready : Ready top 
         let e : j ≡ suc s = omega arith in
         rw e (first (λ l o. idle l ≡ false) refl refl refl);
     operation-is = first (λ l o. operationOf l ≡ o) refl refl refl;
-    past = first (λ l o. Past TableAt (suc s) (suc s) l) (head, tt, tt) (head, tt, tt) (head, tt, tt);
+    past = first (λ l o. Past (TableAt ready) (suc s) (suc s) l) (head, tt, tt) (head, tt, tt) (head, tt, tt);
     claim = inl (first (λ l o. removedRow l ≡ noRowRemoved) refl refl refl);
   }
     where
-      head : TableAt (suc s) 0 .succ .mark ≡ false
+      head : TableAt ready (suc s) 0 .succ .mark ≡ false
       head = structure-at ready (suc s) .head .unmarked
 
       line : lineAt start calls (suc s) w ≡ firstLine code key element
@@ -106,7 +105,7 @@ module _ {top : ℕ} {start : Catalogue} {calls : List Call} (ready : Ready top 
       first : (P : Line → Operation → Type 0) → P (callSearchFrom key 0 0 Search1) (search key)
           → P (callSearchFrom key element 0 Insert1) (insert key element) → P (callSearchFrom key 0 0 Delete1) (delete key)
           → P (lineAt start calls (suc s) w) (operation code key element)
-      first P a i d = subst (λ (l : Line). P l (operation code key element)) (sym line) (first-line P code key element a i d)
+      first P a i d = rw line (first-line P code key element a i d)
 
   -- ---- It goes on, or ends ----
 
@@ -144,7 +143,7 @@ module _ {top : ℕ} {start : Catalogue} {calls : List Call} (ready : Ready top 
           since = omega (arith, r .since);
           busy = busy-further s w u (r .busy) (rw same (r .busy u (r .since) (omega arith)));
           operation-is = rw same (r .operation-is);
-          past = rw same (past-still TableAt (suc s) u (lineAt start calls u w) (r .past));
+          past = rw same (past-still (TableAt ready) (suc s) u (lineAt start calls u w) (r .past));
           claim = elim (r .claim) [
             | inl none ↦ inl (rw same none)
             | inr c ↦ inr (rw same (claim-further c (rw same refl)))
@@ -153,29 +152,30 @@ module _ {top : ℕ} {start : Catalogue} {calls : List Call} (ready : Ready top 
         (inr (ap removedRow same))
 
     pub step-tells : idle (lineAt start calls u w) ≡ false
-        → Tells w (λ (i : ℕ). stateAt start calls i .rows) (suc s) u (operationOf (lineAt start calls u w)) (removedAt u w) (effectIn (stateAt start calls u) w)
+        → Tells w (RowsAt ready) (suc s) u (operationOf (lineAt start calls u w)) (removedAt u w) (effectIn (stateAt start calls u) w)
     step-tells busy =
-        effect-tells top (λ (i : ℕ). stateAt start calls i .rows) (mover-at ready) (structure-at ready) (move-at ready) (suc s) u (r .since) w
+        effect-tells top (RowsAt ready) (mover-at ready) (structure-at ready) (move-at ready) (suc s) u (r .since) w
         (workerAt (stateAt start calls u .workers) w) busy (sound-at ready u .known w) (r .past)
 
+    abbrev effectNow : Effect
+    effectNow = effectIn (stateAt start calls u) w
+
+    abbrev TableAfter : Table
+    TableAfter = rowAt (written (RowsAt ready u) (effectNow .write))
+
     module _ (accepts : Accepts start calls u (Step w)) (taken : StepTaken (stateAt start calls u) (stateAt start calls (suc u)) w) where
-      next-line : lineAt start calls (suc u) w ≡ effectIn (stateAt start calls u) w .line
-      next-line = ap (λ (k : Worker). k .line) (taken .worker .now) ∙ line-after _ _
-
       claim-after : (removedAt (suc u) w ≡ noRowRemoved) ⊎ Claimed s w (suc u) (removedAt (suc u) w)
-      claim-after = rw next-line (go (step-lawful top _ _ (sound-at ready u) w taken .removal) (r .claim))
+      claim-after = rw (next-line taken) (go (step-lawful top _ _ (sound-at ready u) w taken .removal) (r .claim))
         where
-          now : removedAt (suc u) w ≡ removedRow (effectIn (stateAt start calls u) w .line)
-          now = ap removedRow next-line
+          now : removedAt (suc u) w ≡ removedRow (effectNow .line)
+          now = ap removedRow (next-line taken)
 
-          go : Removal (TableAt u) (rowAt (written (stateAt start calls u .rows) (effectIn (stateAt start calls u) w .write))) (removedAt u w)
-              (removedRow (effectIn (stateAt start calls u) w .line))
+          go : Removal (TableAt ready u) TableAfter (removedAt u w) (removedRow (effectNow .line))
               → (removedAt u w ≡ noRowRemoved) ⊎ Claimed s w u (removedAt u w)
-              → (removedRow (effectIn (stateAt start calls u) w .line) ≡ noRowRemoved)
-              ⊎ Claimed s w (suc u) (removedRow (effectIn (stateAt start calls u) w .line))
+              → (removedRow (effectNow .line) ≡ noRowRemoved) ⊎ Claimed s w (suc u) (removedRow (effectNow .line))
           go (goes-on same no-new) (inl none) = inl (same ∙ none)
           go (goes-on same no-new) (inr c) =
-              inr (subst (Claimed s w (suc u)) (sym same) (claim-further c (now ∙ same)))
+              inr (rw same (claim-further c (now ∙ same)))
           go (ends none no-new gone) c = inl none
           go (claims {prev = prev} flag none) c = inr (record {
             at = u;
@@ -183,16 +183,14 @@ module _ {top : ℕ} {start : Catalogue} {calls : List Call} (ready : Ready top 
             later = r .since;
             before = omega arith;
             step = accepts;
-            flag = subst (λ (rows : List Row). FlagMove (TableAt u) (rowAt rows) prev (removedRow (effectIn (stateAt start calls u) w .line)))
-                (sym (taken .rows-written)) flag;
+            flag = rw (taken .rows-written) flag;
             removes = λ j low high.
                 let e : j ≡ suc u = omega arith in
                 rw e now;
           })
 
       goes : (l : Line) → idle l ≡ false → lineAt start calls (suc u) w ≡ l
-          → GoesOn w TableAt (suc s) u (rowAt (written (stateAt start calls u .rows) (effectIn (stateAt start calls u) w .write))) (removedAt u w)
-          (operationOf (lineAt start calls u w)) l
+          → GoesOn w (TableAt ready) (suc s) u TableAfter (removedAt u w) (operationOf (lineAt start calls u w)) l
           → Continues s w code key element u
       goes l busy is g = runs
           (record {
@@ -200,17 +198,16 @@ module _ {top : ℕ} {start : Catalogue} {calls : List Call} (ready : Ready top 
             since = omega (arith, r .since);
             busy = busy-further s w u (r .busy) (rw is busy);
             operation-is = rw is (g .operation-same ∙ r .operation-is);
-            past = rw is (past-still TableAt (suc s) u l (g .past));
+            past = rw is (past-still (TableAt ready) (suc s) u l (g .past));
             claim = claim-after;
           })
           (elim (g .removed-same) [ inl none ↦ inl none | inr same ↦ inr (ap removedRow is ∙ same) ])
 
       stepped-on : Continues s w code key element u
-      stepped-on = go (effectIn (stateAt start calls u) w .line) next-line (step-tells (taken .was-busy) .next)
+      stepped-on = go (effectNow .line) (next-line taken) (step-tells (taken .was-busy) .next)
         where
           go : (l : Line) → lineAt start calls (suc u) w ≡ l
-              → NextLine w TableAt (suc s) u (rowAt (written (stateAt start calls u .rows) (effectIn (stateAt start calls u) w .write))) (removedAt u w)
-              (operationOf (lineAt start calls u w)) l
+              → NextLine w (TableAt ready) (suc s) u TableAfter (removedAt u w) (operationOf (lineAt start calls u w)) l
               → Continues s w code key element u
           go (Idle a) is answered = ends-now a (record {
             running = r;
@@ -229,13 +226,12 @@ module _ {top : ℕ} {start : Catalogue} {calls : List Call} (ready : Ready top 
         still-busy = r .busy u (r .since) (omega arith)
 
         go : Happening start calls u → Continues s w code key element u
-        go (nothing-happens e) = unchanged (ap (λ (c : Catalogue). workerAt (c .workers) w .line) e)
+        go (nothing-happens e) = unchanged (ap (λ (c : Catalogue). lineOf c w) e)
         go (submits v code' key' element' a taken) = elim (ℕ-discrete w v) [
           | yes e ↦ absurd (clash (ap (λ (x : ℕ). idle (lineAt start calls u x)) e ∙ taken .was-idle) still-busy)
-          | no e ↦ unchanged (ap (λ (k : Worker). k .line) (taken .worker .others w e))
+          | no e ↦ unchanged (other-line (taken .worker) w e)
         ]
         go (steps v a taken) = elim (ℕ-discrete w v) [
-          | yes e ↦ stepped-on (subst (λ (x : ℕ). Accepts start calls u (Step x)) (sym e) a)
-              (subst (StepTaken (stateAt start calls u) (stateAt start calls (suc u))) (sym e) taken)
-          | no e ↦ unchanged (ap (λ (k : Worker). k .line) (taken .worker .others w e))
+          | yes e ↦ stepped-on (rw e a) (rw e taken)
+          | no e ↦ unchanged (other-line (taken .worker) w e)
         ]

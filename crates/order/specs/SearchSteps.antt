@@ -1,6 +1,5 @@
 -- The lines of SearchFrom are lawful, and so is what they return to; with the other routines' lines, every line is.
 use Prim.Native.Nat.{ℕ, suc, _≤_, _<_}
-use mathlib.Core.Bool.{true, false}
 use mathlib.Core.Path.{_≡_, refl, ap}
 use mathlib.Core.Logic.{_≢_}
 use mathlib.Core.List.{List, []}
@@ -10,17 +9,17 @@ use Rattle.order.specs.Table.{rightOf, rankOf}
 use Rattle.order.specs.Structure.{Structure}
 use Rattle.order.specs.StructureFacts.{tail-rank}
 use Rattle.order.specs.Facts.{AtMost, Above, Below, AllHold, reach, searchCallerFacts, facts}
-use Rattle.order.specs.Tests.{reaches-rank}
 use Rattle.order.specs.Lawful.{Lawful, read}
 use Rattle.order.specs.InsertSteps.{insert-2-lawful, insert-20-lawful}
 use Rattle.order.specs.DeleteSteps.{delete-2-lawful, tryFlag-12-lawful}
 use Rattle.order.specs.HelpMarkedSteps.{help-marked-lawful}
+use Rattle.order.specs.LineConditions.{reaches-rank}
 use Rattle.model.specs.State.{rowAt}
 use Rattle.model.specs.Choices.{if-known, if-both}
 use Rattle.model.specs.Order.{hasKey}
 use Rattle.model.specs.Cas.{succAt}
 use Rattle.model.specs.HelpMarked.{helpMarked-1}
-use Rattle.model.specs.SearchFrom.{strict, reaches, search-2, searchFromReturns, searchFrom-1, searchFrom-2, searchFrom-3-next-mark, searchFrom-3-curr-mark, searchFrom-3-curr-right, searchFrom-4, searchFrom-6, searchFrom-7, searchFrom-9, searchFrom-10, searchLine}
+use Rattle.model.specs.SearchFrom.{reaches, search-2, searchFromReturns, searchFrom-1, searchFrom-2, searchFrom-3-next-mark, searchFrom-3-curr-mark, searchFrom-3-curr-right, searchFrom-4, searchFrom-6, searchFrom-7, searchFrom-9, searchFrom-10, searchLine}
 use Rattle.model.specs.WellFormed.{heldRow, heldInSearch, noRowHeld}
 use Rattle.model.specs.declared.Row.{Row}
 use Rattle.model.specs.declared.Pending.{Pending}
@@ -71,7 +70,8 @@ module _ (top me : ℕ) (rows : List Row) (sound : Structure top (rowAt rows)) (
     abbrev Common : Type 0
     Common = AllHold top me (rowAt rows) (facts (Search SearchFrom1 f) hs)
 
-    searchFrom-10-lawful : (next : ℕ) → Common → Above top (rowAt rows) next (reach (f .caller) (f .key)) → LawfulSearch (searchFrom-10 rows f next)
+    searchFrom-10-lawful : (next : ℕ) → Common → Above top (rowAt rows) next (reach (f .caller) (f .key))
+        → LawfulSearch (searchFrom-10 rows f next)
     unfolding searchFrom-10
     searchFrom-10-lawful next (fits, (alone, (low, rest))) high =
         returns-lawful (f .key) (f .element) (f .curr) next (f .caller) fits alone low high rest
@@ -147,7 +147,8 @@ module _ (top me : ℕ) (rows : List Row) (sound : Structure top (rowAt rows)) (
         (λ _. read top me rows _ 0 hs _ refl refl (fits, (alone, (low, (before, (marked, rest))))))
 
     -- Line 4.
-    pub searchFrom-4-lawful : (next : ℕ) → AllHold top me (rowAt rows) (facts (Search (SearchFrom4 next) f) hs) → LawfulSearch (searchFrom-4 rows f next)
+    pub searchFrom-4-lawful : (next : ℕ) → AllHold top me (rowAt rows) (facts (Search (SearchFrom4 next) f) hs)
+        → LawfulSearch (searchFrom-4 rows f next)
     unfolding searchFrom-4 heldRow
     searchFrom-4-lawful next (fits, (alone, (low, (before, (marked, rest))))) =
         if-known LawfulSearch (eqb (succAt rows (f .curr) .right) next)

@@ -2,29 +2,31 @@
 -- calls, for a rank of the tail above all of their keys.
 use Prim.Native.Nat.{ℕ, suc, _+_, _≤_, _<_, max}
 use mathlib.Core.Bool.{true, false}
-use mathlib.Core.Path.{_≡_, refl, ap, sym, _∙_, subst}
+use mathlib.Core.Path.{_≡_, refl, ap, sym, _∙_}
 use mathlib.Core.Logic.{_≢_, _⊎_, inl, inr}
 use mathlib.Core.List.{List, [], _∷_}
 use native.Mathlib.Omega.{arith}
 use lib.Dec.{eqb}
-use lib.ListN.{length, set, length-set}
-use Rattle.order.specs.Basics.{clash, held-linked}
-use Rattle.order.specs.Table.{Table, standingOf}
+use lib.ListN.{length}
+use Rattle.order.specs.Table.{Table, standingOf, tableOf}
 use Rattle.order.specs.Structure.{Structure}
 use Rattle.order.specs.StructureFacts.{head-rank}
 use Rattle.order.specs.Moves.{Move, nothing, links, marks, unlinks, flags, backlinks, private}
-use Rattle.order.specs.Kept.{move-keeps-structure}
-use Rattle.order.specs.Stack.{newestFirst, stackOf, stackAfter, stacked-stack, stacked-slots}
+use Rattle.order.specs.MovesKeep.{move-keeps-structure}
+use Rattle.order.specs.Stack.{newestFirst, stackOf, stackAfter, stacked-stack, stackIn}
 use Rattle.order.specs.Facts.{AtMost, AllHold, facts}
 use Rattle.order.specs.StableFacts.{others-leave-held, facts-survive}
-use Rattle.order.specs.Writes.{held-inside}
 use Rattle.order.specs.Lawful.{Lawful, removedRow}
 use Rattle.order.specs.EveryLine.{effect-lawful}
-use Rattle.order.specs.Events.{Event, refused, submitted, stepped, Submitted, StepTaken, each-worker, effectIn, submittedWorker, call-event}
+use Rattle.order.specs.Events.{Event, refused, submitted, stepped, Submitted, StepTaken, each-worker, call-event}
 use Rattle.order.specs.Sound.{Sound}
-use Rattle.model.specs.State.{rowAt, workerAt, idle}
+use Rattle.kept.specs.Standing.{held-not-linked, held-inside, free-not-held}
+use Rattle.kept.specs.Ways.{effectIn, submittedWorker, lineOf, workerIn}
+use Rattle.kept.specs.Sized.{EightHelps, written-length, after-helps}
+use Rattle.kept.specs.IdleLine.{if-idle, idle-names-none}
+use Rattle.model.specs.State.{rowAt, idle}
 use Rattle.model.specs.Choices.{if-both, if-known}
-use Rattle.model.specs.WellFormed.{heldRow, noRowHeld}
+use Rattle.model.specs.WellFormed.{heldRow}
 use Rattle.model.specs.Step.{written, workerAfter, ninthHelp, firstLine}
 use Rattle.model.specs.Answers.{stacked-line, line-after}
 use Rattle.model.specs.Run.{call, run}
@@ -34,10 +36,7 @@ use Rattle.model.specs.declared.Worker.{Worker}
 use Rattle.model.specs.declared.Catalogue.{Catalogue}
 use Rattle.model.specs.declared.Pending.{Pending}
 use Rattle.model.specs.declared.Effect.{Effect}
-use Rattle.model.specs.declared.Write.{Write}
-use Rattle.model.specs.declared.Write.the-variants.{NoRow, OneRow, TwoRows}
 use Rattle.model.specs.declared.Line.{Line}
-use Rattle.model.specs.declared.Line.the-variants.{Idle, Search, Insert, Flag, Help}
 use Rattle.model.specs.declared.Stepped.{Stepped}
 use Rattle.model.specs.declared.Call.{Call}
 use Rattle.model.specs.declared.Call.the-variants.{Submit, Step}
@@ -45,38 +44,17 @@ use Rattle.model.specs.declared.Call.the-variants.{Submit, Step}
 -- ---- A worker after a line ----
 
 idle-knows-nothing : (top w : ℕ) (R : Table) (l : Line) (hs : List Pending) → idle l ≡ true → AllHold top w R (facts l hs)
-idle-knows-nothing top w R (Idle a) hs h = tt
-idle-knows-nothing top w R (Search l f) hs h = absurd (clash h refl)
-idle-knows-nothing top w R (Insert l f) hs h = absurd (clash h refl)
-idle-knows-nothing top w R (Flag l f) hs h = absurd (clash h refl)
-idle-knows-nothing top w R (Help l f) hs h = absurd (clash h refl)
-
-idle-holds-nothing : (l : Line) → idle l ≡ true → heldRow l ≡ noRowHeld
-unfolding heldRow
-idle-holds-nothing (Idle a) h = refl
-idle-holds-nothing (Search l f) h = absurd (clash h refl)
-idle-holds-nothing (Insert l f) h = absurd (clash h refl)
-idle-holds-nothing (Flag l f) h = absurd (clash h refl)
-idle-holds-nothing (Help l f) h = absurd (clash h refl)
+idle-knows-nothing top w R l hs = if-idle (λ l. AllHold top w R (facts l hs)) (λ a. tt) l
 
 module _ (k : Worker) (e : Effect) where
-  slots-after : length (k .helps) ≡ 8 → length (workerAfter k e .helps) ≡ 8
-  unfolding workerAfter
-  slots-after size = if-both (λ (x : Worker). length (x .helps) ≡ 8) (idle (e .line)) refl (stacked-slots k (e .line) (e .stack) ∙ size)
-
   known-after : (top w : ℕ) (R : Table) → ninthHelp (k .count) (e .stack) ≡ false → length (k .helps) ≡ 8
-      → AllHold top w R (facts (e .line) (stackAfter (stackOf k) (e .stack))) → AllHold top w R (facts (workerAfter k e .line) (stackOf (workerAfter k e)))
+      → AllHold top w R (facts (e .line) (stackAfter (stackOf k) (e .stack)))
+      → AllHold top w R (facts (workerAfter k e .line) (stackOf (workerAfter k e)))
   unfolding workerAfter
   known-after top w R few size known =
       if-known (λ (x : Worker). AllHold top w R (facts (x .line) (stackOf x))) (idle (e .line))
       (λ finished. idle-knows-nothing top w R (e .line) _ finished)
       (λ _. rw (stacked-line k (e .line) (e .stack), stacked-stack k (e .line) (e .stack) few size) known)
-
-length-written : (rows : List Row) (w : Write) → length (written rows w) ≡ length rows
-unfolding written
-length-written rows NoRow = refl
-length-written rows (OneRow i r) = length-set rows i r
-length-written rows (TwoRows i r j s) = length-set (set rows i r) j s ∙ length-set rows i r
 
 -- ---- A submit ----
 
@@ -85,7 +63,9 @@ first-known : (top w : ℕ) (R : Table) (code key element : ℕ) → Structure t
 unfolding firstLine newestFirst
 first-known top w R code key element sound fits =
     if-both (λ (l : Line). AllHold top w R (facts l [])) (eqb code 1) (fits, (refl, (at-head (suc key), tt)))
-    (if-both (λ (l : Line). AllHold top w R (facts l [])) (eqb code 2) (fits, (refl, (at-head (suc key), tt))) (fits, (refl, (at-head key, tt))))
+    (if-both (λ (l : Line). AllHold top w R (facts l [])) (eqb code 2)
+    (fits, (refl, (at-head (suc key), tt)))
+    (fits, (refl, (at-head key, tt))))
   where
     at-head : (bound : ℕ) → AtMost top R 0 bound
     at-head bound = record { linked = sound .head .linked; low = omega (arith, head-rank top R) }
@@ -95,67 +75,72 @@ first-known top w R code key element sound fits =
 -- a move makes no row held but its own worker's
 held-before : {top u v : ℕ} {R R' : Table} → u ≢ v → Move top u R R' → (x : ℕ) → standingOf R' x ≡ Held v → standingOf R x ≡ Held v
 held-before differ (nothing e) x h = cc
-held-before differ (links {new = new} m) x h = sym (m .standing-other x (λ e. held-linked h (cc (m .new-linked)))) ∙ h
+held-before differ (links {new = new} m) x h = sym (m .standing-other x (λ e. held-not-linked h (cc (m .new-linked)))) ∙ h
 held-before differ (marks m) x h = sym (m .standing= x) ∙ h
 held-before differ (unlinks m) x h = sym (m .standing= x) ∙ h
 held-before differ (flags m) x h = sym (m .standing= x) ∙ h
 held-before differ (backlinks m) x h = sym (m .standing= x) ∙ h
-held-before {u = u} {v = v} {R' = R'} differ (private {new = new} m) x h = ap (λ (r : Row). r .standing) (sym (m .other x (λ e. mine e (m .after)))) ∙ h
+held-before {u = u} {v = v} {R' = R'} differ (private {new = new} m) x h =
+    ap (λ (r : Row). r .standing) (sym (m .other x (λ e. mine e (m .after)))) ∙ h
   where
     mine : x ≡ new → (standingOf R' new ≡ Free) ⊎ (standingOf R' new ≡ Held u) → ⊥
-    mine e (inl free) = let z : _≡_ {A = ℕ} 0 1 = cc in omega arith
+    mine e (inl free) = free-not-held {w = v} free (cc)
     mine e (inr held) = differ (cc)
 
 module _ (top : ℕ) (c c' : Catalogue) (sound : Sound top c) where
   submit-keeps-sound : (w code key element : ℕ) → suc key < top → Submitted c c' w code key element → Sound top c'
   submit-keeps-sound w code key element fits s = record {
     structure = same-rows (λ rows. Structure top (rowAt rows)) (sound .structure);
-    known = each-worker (s .worker) (λ v k. AllHold top v (rowAt (c' .rows)) (facts (k .line) (stackOf k)))
+    known = each-worker (s .worker) (λ v k. AllHold top v (tableOf c') (facts (k .line) (stackOf k)))
         (same-rows (λ rows. AllHold top w (rowAt rows) (facts (firstLine code key element) (stackOf (submittedWorker code key element))))
-        (first-known top w (rowAt (c .rows)) code key element (sound .structure) fits))
-        (λ v e. same-rows (λ rows. AllHold top v (rowAt rows) (facts (workerAt (c .workers) v .line) (stackOf (workerAt (c .workers) v)))) (sound .known v));
-    named = same-rows (λ rows. (v x : ℕ) → standingOf (rowAt rows) x ≡ Held v → heldRow (workerAt (c' .workers) v .line) ≡ x)
-        (each-worker (s .worker) (λ v k. (x : ℕ) → standingOf (rowAt (c .rows)) x ≡ Held v → heldRow (k .line) ≡ x)
+        (first-known top w (tableOf c) code key element (sound .structure) fits))
+        (λ v e. same-rows (λ rows. AllHold top v (rowAt rows) (facts (lineOf c v) (stackIn c v))) (sound .known v));
+    named = same-rows (λ rows. (v x : ℕ) → standingOf (rowAt rows) x ≡ Held v → heldRow (lineOf c' v) ≡ x)
+        (each-worker (s .worker) (λ v k. (x : ℕ) → standingOf (tableOf c) x ≡ Held v → heldRow (k .line) ≡ x)
         (λ x h. absurd (omega (
           arith,
           sound .named w x h,
-          idle-holds-nothing (workerAt (c .workers) w .line) (s .was-idle),
+          idle-names-none (lineOf c w) (s .was-idle),
           held-inside (c .rows) x w h,
-          sound .row-count,
+          sound .sizes .rows,
         )))
         (λ v e. sound .named v));
-    row-count = ap length (s .rows-same) ∙ sound .row-count;
-    worker-count = s .worker .size ∙ sound .worker-count;
-    slot-count = each-worker (s .worker) (λ v k. length (k .helps) ≡ 8) refl (λ v e. sound .slot-count v);
+    sizes = record {
+      rows = ap length (s .rows-same) ∙ sound .sizes .rows;
+      workers = s .worker .size ∙ sound .sizes .workers;
+      helps = each-worker (s .worker) (λ v k. EightHelps k) refl (λ v e. sound .sizes .helps v);
+    };
   }
     where
       same-rows : (P : List Row → Type 0) → P (c .rows) → P (c' .rows)
-      same-rows P h = subst P (sym (s .rows-same)) h
+      same-rows P h = rw (s .rows-same) h
 
   -- the effect of the step is lawful
   pub step-lawful : (w : ℕ) → StepTaken c c' w
-      → Lawful top w (c .rows) (heldRow (workerAt (c .workers) w .line)) (removedRow (workerAt (c .workers) w .line)) (stackOf (workerAt (c .workers) w)) (effectIn c w)
-  step-lawful w s = effect-lawful top w (c .rows) (workerAt (c .workers) w) (sound .structure) (sound .row-count) (s .was-busy) (sound .known w)
+      → Lawful top w (c .rows) (heldRow (lineOf c w)) (removedRow (lineOf c w)) (stackIn c w) (effectIn c w)
+  step-lawful w s = effect-lawful top w (c .rows) (workerIn c w) (sound .structure) (sound .sizes .rows) (s .was-busy) (sound .known w)
 
   step-keeps-sound : (w : ℕ) → StepTaken c c' w → Sound top c'
   step-keeps-sound w s = record {
     structure = rows-after (λ rows. Structure top (rowAt rows)) (move-keeps-structure (sound .structure) (l .move));
-    known = rows-after (λ rows. (v : ℕ) → AllHold top v (rowAt rows) (facts (workerAt (c' .workers) v .line) (stackOf (workerAt (c' .workers) v))))
+    known = rows-after (λ rows. (v : ℕ) → AllHold top v (rowAt rows) (facts (lineOf c' v) (stackIn c' v)))
         (each-worker (s .worker) (λ v k. AllHold top v (rowAt after) (facts (k .line) (stackOf k)))
-        (known-after k e top w (rowAt after) (s .few-helps) (sound .slot-count w) (l .known))
+        (known-after k e top w (rowAt after) (s .few-helps) (sound .sizes .helps w) (l .known))
         (λ v differ. facts-survive top v (sound .structure) (l .move) (others-leave-held (sound .structure) (λ q. differ (sym q)) (l .move))
-        (facts (workerAt (c .workers) v .line) (stackOf (workerAt (c .workers) v))) (sound .known v)));
-    named = rows-after (λ rows. (v x : ℕ) → standingOf (rowAt rows) x ≡ Held v → heldRow (workerAt (c' .workers) v .line) ≡ x)
+        (facts (lineOf c v) (stackIn c v)) (sound .known v)));
+    named = rows-after (λ rows. (v x : ℕ) → standingOf (rowAt rows) x ≡ Held v → heldRow (lineOf c' v) ≡ x)
         (each-worker (s .worker) (λ v k. (x : ℕ) → standingOf (rowAt after) x ≡ Held v → heldRow (k .line) ≡ x)
         (λ x h. ap heldRow (line-after k e) ∙ l .named x (sound .named w x) h)
         (λ v differ x h. sound .named v x (held-before (λ q. differ (sym q)) (l .move) x h)));
-    row-count = ap length (s .rows-written) ∙ length-written (c .rows) (e .write) ∙ sound .row-count;
-    worker-count = s .worker .size ∙ sound .worker-count;
-    slot-count = each-worker (s .worker) (λ v k. length (k .helps) ≡ 8) (slots-after k e (sound .slot-count w)) (λ v differ. sound .slot-count v);
+    sizes = record {
+      rows = ap length (s .rows-written) ∙ written-length (c .rows) (e .write) ∙ sound .sizes .rows;
+      workers = s .worker .size ∙ sound .sizes .workers;
+      helps = each-worker (s .worker) (λ v k. EightHelps k) (after-helps k e (sound .sizes .helps w)) (λ v differ. sound .sizes .helps v);
+    };
   }
     where
       k : Worker
-      k = workerAt (c .workers) w
+      k = workerIn c w
 
       e : Effect
       e = effectIn c w
@@ -167,21 +152,22 @@ module _ (top : ℕ) (c c' : Catalogue) (sound : Sound top c) where
       l = step-lawful w s
 
       rows-after : (P : List Row → Type 0) → P after → P (c' .rows)
-      rows-after P h = subst P (sym (s .rows-written)) h
+      rows-after P h = rw (s .rows-written) h
 
 -- the key that a call submits fits
 abbrev pub KeyFits : ℕ → Call → Type 0
 KeyFits top (Submit w code key element) = suc key < top
 KeyFits top (Step w) = Unit {0}
 
-pub event-keeps-sound : (top : ℕ) {c : Catalogue} (x : Call) {s : Stepped} → Sound top c → KeyFits top x → Event c x s → Sound top (s .state)
-event-keeps-sound top x sound fits (refused r v same) = subst (Sound top) (sym same) sound
+pub event-keeps-sound : (top : ℕ) {c : Catalogue} (x : Call) {s : Stepped} → Sound top c → KeyFits top x → Event c x s
+    → Sound top (s .state)
+event-keeps-sound top x sound fits (refused r v same) = rw same sound
 event-keeps-sound top {c} x {s} sound fits (submitted w code key element small is v s') =
-    submit-keeps-sound top c (s .state) sound w code key element (subst (KeyFits top) is fits) s'
+    submit-keeps-sound top c (s .state) sound w code key element (rw is at fits) s'
 event-keeps-sound top {c} x {s} sound fits (stepped w small is v s') = step-keeps-sound top c (s .state) sound w s'
 
 pub call-keeps-sound : (top : ℕ) (c : Catalogue) (x : Call) → Sound top c → KeyFits top x → Sound top (call c x .state)
-call-keeps-sound top c x sound fits = event-keeps-sound top x sound fits (call-event c x (sound .worker-count))
+call-keeps-sound top c x sound fits = event-keeps-sound top x sound fits (call-event c x (sound .sizes .workers))
 
 -- ---- Runs ----
 

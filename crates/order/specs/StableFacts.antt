@@ -2,21 +2,21 @@
 -- does, and so does every move of linked rows alone.
 use Prim.Native.Nat.{ℕ}
 use mathlib.Core.Bool.{true}
-use mathlib.Core.Path.{_≡_, refl, ap, sym, _∙_, subst}
+use mathlib.Core.Path.{_≡_, ap, sym, _∙_, subst}
 use mathlib.Core.Logic.{_≢_, _⊎_, inl, inr}
 use mathlib.Core.List.{List, [], _∷_}
 use native.Mathlib.Omega.{arith}
 use native.Mathlib.Decide.{ℕ-discrete}
-use Rattle.order.specs.Basics.{clash, held-linked}
-use Rattle.order.specs.Table.{Table, markOf, backOf, standingOf, IsLinked}
+use Rattle.order.specs.Table.{Table, markOf, backOf, standingOf}
 use Rattle.order.specs.Structure.{Structure, Helpable, flagged-for, already-marked}
 use Rattle.order.specs.StructureFacts.{flagged-right-linked, help-del-linked, help-back, help-unique}
 use Rattle.order.specs.Moves.{Move, nothing, links, marks, unlinks, flags, backlinks, private}
 use Rattle.order.specs.PrivateKeeps.{linked-unchanged}
-use Rattle.order.specs.Kept.{grow, grow-rank}
+use Rattle.order.specs.MovesKeep.{grow, grow-rank}
 use Rattle.order.specs.Facts.{Fact, key-fits, same-row, none-pending, at-most, above, below, save-of, marked, frozen, helpable, helping, holding, AtMost, Above, SaveOf, Helping, Holds, AllHold}
+use Rattle.kept.specs.Conditions.{clash, contradiction}
+use Rattle.kept.specs.Standing.{held-not-linked}
 use Rattle.model.specs.declared.Row.{Row}
-use Rattle.model.specs.declared.Succ.{Succ}
 use Rattle.model.specs.declared.Standing.the-variants.{Free, Held}
 
 -- ---- Rows that a worker holds ----
@@ -38,26 +38,34 @@ Apart (private {new = new} m) x = x ≢ new
 same-parts : (r s : Row) → r .key ≡ s .key → r .element ≡ s .element → r .backlink ≡ s .backlink → r .succ .right ≡ s .succ .right
     → r .succ .mark ≡ s .succ .mark → r .succ .flag ≡ s .succ .flag → r .standing ≡ s .standing → r ≡ s
 same-parts r s key element back right mark flag standing =
-    λ i. record { key = key i; element = element i; backlink = back i; succ = record { right = right i; mark = mark i; flag = flag i }; standing = standing i }
+    λ i. record {
+      key = key i;
+      element = element i;
+      backlink = back i;
+      succ = record { right = right i; mark = mark i; flag = flag i };
+      standing = standing i;
+    }
 
 pub held-unchanged : {top u w : ℕ} {R R' : Table} → Structure top R → (m : Move top u R R') → (x : ℕ) → Apart m x
     → standingOf R x ≡ Held w → R' x ≡ R x
 held-unchanged sound (nothing e) x apart h = ap (λ (S : Table). S x) (sym e)
 held-unchanged sound (links m) x apart h =
     same-parts _ _ (m .key= x) (m .element= x) (m .back= x)
-    (m .right-other x (λ e. held-linked h (cc (m .prev-regular .linked))) apart) (m .mark= x) (m .flag= x) (m .standing-other x apart)
+    (m .right-other x (λ e. held-not-linked h (cc (m .prev-regular .linked))) apart) (m .mark= x) (m .flag= x) (m .standing-other x apart)
 held-unchanged sound (marks {prev = prev} m) x apart h =
     same-parts _ _ (m .key= x) (m .element= x) (m .back= x) (m .right= x)
-    (m .mark-other x (λ e. held-linked h (cc (flagged-right-linked sound prev (m .prev-flagged), m .prev-right)))) (m .flag= x) (m .standing= x)
+    (m .mark-other x (λ e. held-not-linked h (cc (flagged-right-linked sound prev (m .prev-flagged), m .prev-right))))
+    (m .flag= x) (m .standing= x)
 held-unchanged sound (unlinks {prev = prev} m) x apart h =
-    let other : x ≢ prev = λ e. held-linked h (cc (sound .flag-regular prev (m .prev-flagged) .linked)) in
+    let other : x ≢ prev = λ e. held-not-linked h (cc (sound .flag-regular prev (m .prev-flagged) .linked)) in
     same-parts _ _ (m .key= x) (m .element= x) (m .back= x) (m .right-other x other) (m .mark= x) (m .flag-other x other) (m .standing= x)
 held-unchanged sound (flags m) x apart h =
     same-parts _ _ (m .key= x) (m .element= x) (m .back= x) (m .right= x) (m .mark= x)
-    (m .flag-other x (λ e. held-linked h (cc (m .prev-regular .linked)))) (m .standing= x)
+    (m .flag-other x (λ e. held-not-linked h (cc (m .prev-regular .linked)))) (m .standing= x)
 held-unchanged sound (backlinks {prev = prev} {del = del} m) x apart h =
     same-parts _ _ (m .key= x) (m .element= x)
-    (m .back-other x (λ e. held-linked h (cc (help-del-linked sound prev del (m .help))))) (m .right= x) (m .mark= x) (m .flag= x) (m .standing= x)
+    (m .back-other x (λ e. held-not-linked h (cc (help-del-linked sound prev del (m .help)))))
+    (m .right= x) (m .mark= x) (m .flag= x) (m .standing= x)
 held-unchanged sound (private m) x apart h = m .other x apart
 
 apart-from-others : {top u w : ℕ} {R R' : Table} → u ≢ w → (m : Move top u R R') → (x : ℕ) → standingOf R x ≡ Held w → Apart m x
@@ -70,7 +78,7 @@ apart-from-others differ (backlinks m) x h = tt
 apart-from-others {u = u} {w = w} {R = R} differ (private {new = new} m) x h = λ e. mine e (m .before)
   where
     mine : x ≡ new → (standingOf R new ≡ Free) ⊎ (standingOf R new ≡ Held u) → ⊥
-    mine e (inl free) = let z : _≡_ {A = ℕ} 0 1 = cc in omega arith
+    mine e (inl free) = contradiction (cc)
     mine e (inr held) = differ (cc)
 
 pub others-leave-held : {top u w : ℕ} {R R' : Table} → Structure top R → u ≢ w → Move top u R R' → LeavesHeld w R R'
@@ -78,7 +86,8 @@ others-leave-held sound differ m x h = held-unchanged sound m x (apart-from-othe
 
 -- ---- Helps ----
 
-pub help-survives : {top u : ℕ} {R R' : Table} → Structure top R → Move top u R R' → (prev del : ℕ) → Helpable R prev del → Helpable R' prev del
+pub help-survives : {top u : ℕ} {R R' : Table} → Structure top R → Move top u R R' → (prev del : ℕ) → Helpable R prev del
+    → Helpable R' prev del
 help-survives sound m prev del (already-marked h e) =
     let g = grow sound m del (sound .mark-linked del h) in
     already-marked (g .mark h) (g .back h ∙ e)
@@ -102,8 +111,10 @@ help-survives sound (private m) prev del (flagged-for h e) =
     flagged-for (cc) (cc)
 
 -- a backlink once written is written again with the same row only
-pub helping-survives : {top u : ℕ} {R R' : Table} → Structure top R → Move top u R R' → (prev del : ℕ) → Helping R prev del → Helping R' prev del
-helping-survives {top = top} {R = R} {R' = R'} sound move prev del h = record { back-is = go move; help = help-survives sound move prev del (h .help) }
+pub helping-survives : {top u : ℕ} {R R' : Table} → Structure top R → Move top u R R' → (prev del : ℕ) → Helping R prev del
+    → Helping R' prev del
+helping-survives {top = top} {R = R} {R' = R'} sound move prev del h =
+    record { back-is = go move; help = help-survives sound move prev del (h .help) }
   where
     go : {u : ℕ} → Move top u R R' → backOf R' del ≡ prev
     go (nothing e) = cc (h .back-is)
@@ -113,7 +124,7 @@ helping-survives {top = top} {R = R} {R' = R'} sound move prev del h = record { 
     go (flags m) = m .back= del ∙ h .back-is
     go (private m) = cc (linked-unchanged sound m del (help-del-linked sound prev del (h .help)), h .back-is)
     go (backlinks {prev = other} {del = row} m) = elim (ℕ-discrete del row) [
-      | yes e ↦ cc (m .back-del, help-unique sound prev other del (h .help) (subst (Helpable R other) (sym e) (m .help)))
+      | yes e ↦ cc (m .back-del, help-unique sound prev other del (h .help) (rw e (m .help)))
       | no e ↦ m .back-other del e ∙ h .back-is
     ]
 

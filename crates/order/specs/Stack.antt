@@ -6,9 +6,10 @@ use mathlib.Core.Logic.{_≢_}
 use mathlib.Core.List.{List, [], _∷_}
 use native.Mathlib.Omega.{arith}
 use native.Mathlib.Numerals.{add-one}
-use lib.ListN.{length, set, length-set}
+use lib.ListN.{length, set}
 use lib.Seq.{getD-set-same, getD-set-other}
 use borrow.Author.Tests.{leb-false}
+use Rattle.kept.specs.Ways.{workerIn}
 use Rattle.model.specs.State.{helpAt, noHelp}
 use Rattle.model.specs.Step.{stacked, ninthHelp}
 use Rattle.model.specs.declared.Pending.{Pending}
@@ -16,6 +17,7 @@ use Rattle.model.specs.declared.Worker.{Worker}
 use Rattle.model.specs.declared.Line.{Line}
 use Rattle.model.specs.declared.Stack.{Stack}
 use Rattle.model.specs.declared.Stack.the-variants.{Keep, Push, Pop}
+use Rattle.model.specs.declared.Catalogue.{Catalogue}
 
 -- the first n helps, the last of them first
 unfoldable pub newestFirst : List Pending → ℕ → List Pending
@@ -24,6 +26,10 @@ newestFirst helps (suc n) = helpAt helps n ∷ newestFirst helps n
 
 abbrev pub stackOf : Worker → List Pending
 stackOf k = newestFirst (k .helps) (k .count)
+
+-- the pending helps of worker w
+abbrev pub stackIn : Catalogue → ℕ → List Pending
+stackIn c w = stackOf (workerIn c w)
 
 abbrev pub withoutNewest : List Pending → List Pending
 withoutNewest [] = []
@@ -48,7 +54,7 @@ newest-set helps i (suc n) h below =
     let other : n ≢ i = λ e. omega arith in
     cc (getD-set-other helps i n h noHelp other, newest-set helps i n h (omega arith))
 
--- The stack of a worker that goes on is the stack that the line made of it, and has as many slots.
+-- The stack of a worker that goes on is the stack that the line made of it.
 
 pub pushed : (helps : List Pending) (n : ℕ) (h : Pending) → n < length helps
     → newestFirst (set helps n h) (n + 1) ≡ h ∷ newestFirst helps n
@@ -70,12 +76,6 @@ module _ (k : Worker) (line : Line) where
   stacked-stack Keep few size = refl
   stacked-stack (Push h) few size = pushed (k .helps) (k .count) h (omega (arith, leb-false 8 (k .count) few))
   stacked-stack Pop few size = popped (k .helps) (k .count)
-
-  pub stacked-slots : (s : Stack) → length (stacked k line s .helps) ≡ length (k .helps)
-  unfolding stacked
-  stacked-slots Keep = refl
-  stacked-slots (Push h) = length-set (k .helps) (k .count) h
-  stacked-slots Pop = length-set (k .helps) (k .count - 1) noHelp
 
 -- what a line that returns from a help finds: nothing is pending, or the newest help
 pub data Newest (count : ℕ) (last : Pending) (hs : List Pending) : Type 0 where

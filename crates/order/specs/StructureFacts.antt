@@ -6,7 +6,8 @@ use mathlib.Core.Logic.{_≢_, _⊎_, inl, inr}
 use native.Mathlib.Omega.{arith}
 use Rattle.order.specs.Table.{Table, rightOf, markOf, flagOf, backOf, rank, rankOf, IsLinked, Regular}
 use Rattle.order.specs.Structure.{Structure, Helpable, flagged-for, already-marked}
-use Rattle.order.specs.Basics.{clash, Compared, less, equal, more, compared, bool-cases}
+use Rattle.order.specs.Compared.{Compared, less, equal, more, compared}
+use Rattle.kept.specs.Conditions.{clash, bool-cases}
 
 -- the rank of a row that is neither end
 pub save-rank : (top x key : ℕ) → x ≢ 0 → x ≢ 1 → rank top x key ≡ suc key
@@ -83,13 +84,6 @@ module _ {top : ℕ} {R : Table} (sound : Structure top R) where
   pub help-below : (prev del : ℕ) → Helpable R prev del → rankOf top R prev < rankOf top R del
   help-below prev del (flagged-for h e) = rw e at (flagged-right-above prev h)
   help-below prev del (already-marked h e) = rw e at (sound .back-below del (sound .mark-linked del h) (marked-not-head del h))
-
-  pub help-del-not-head : (prev del : ℕ) → Helpable R prev del → del ≢ 0
-  help-del-not-head prev del help = above-not-head top R prev del (help-below prev del help)
-
-  pub help-del-not-tail : (prev del : ℕ) → Helpable R prev del → del ≢ 1
-  help-del-not-tail prev del (flagged-for h e) f = sound .flag-not-before-tail prev h (cc)
-  help-del-not-tail prev del (already-marked h e) f = marked-not-tail del h f
 
   -- once del is marked its backlink is the predecessor of the help
   pub help-back : (prev del : ℕ) → Helpable R prev del → markOf R del ≡ true → backOf R del ≡ prev

@@ -4,12 +4,22 @@
 use Prim.Native.Nat.{ℕ, zero, suc}
 use mathlib.Core.Bool.{Bool, false}
 use mathlib.Core.Path.{_≡_}
+use mathlib.Core.List.{List}
+use Rattle.model.specs.State.{rowAt}
 use Rattle.model.specs.declared.Row.{Row}
 use Rattle.model.specs.declared.Standing.{Standing}
 use Rattle.model.specs.declared.Standing.the-variants.{Linked}
+use Rattle.model.specs.declared.Catalogue.{Catalogue}
 
 abbrev pub Table : Type 0
 Table = ℕ → Row
+
+abbrev pub tableOf : Catalogue → Table
+tableOf c = rowAt (c .rows)
+
+-- the tables of the rows at each moment
+abbrev pub tablesOf : (ℕ → List Row) → ℕ → Table
+tablesOf rowsAt = λ i. rowAt (rowsAt i)
 
 abbrev pub rightOf : Table → ℕ → ℕ
 rightOf R x = R x .succ .right

@@ -2,13 +2,13 @@
 -- Past the last call nothing changes, so every number is a position.
 use Prim.Native.Nat.{ℕ, zero, suc, _≤_, _<_}
 use mathlib.Core.Bool.{true}
-use mathlib.Core.Path.{_≡_, refl, ap, sym, _∙_, subst}
+use mathlib.Core.Path.{_≡_, refl, ap, sym, _∙_}
 use mathlib.Core.List.{List, [], _∷_, _++_}
 use native.Mathlib.Omega.{arith}
 use native.Mathlib.Decide.{decLt}
 use lib.ListN.{length, take, getD}
 use lib.Seq.{take-suc, take-all}
-use Rattle.order.specs.Table.{Table}
+use Rattle.order.specs.Table.{Table, tableOf, IsLinked}
 use Rattle.order.specs.Structure.{Structure}
 use Rattle.order.specs.Moves.{Move, nothing}
 use Rattle.order.specs.Events.{Event, refused, submitted, stepped, Submitted, StepTaken, call-event}
@@ -17,13 +17,15 @@ use Rattle.order.specs.SoundKept.{KeysFit, run-keeps-sound, step-lawful}
 use Rattle.order.specs.Owners.{Owned, event-keeps-owned}
 use Rattle.order.specs.Demand.{stateAt, Accepts}
 use Rattle.order.specs.OneRequest.{any-default}
-use Rattle.model.specs.State.{rowAt, workerAt, idle}
+use Rattle.order.specs.Timeline.{grown-later}
+use Rattle.order.specs.MovesKeep.{Grown}
+use Rattle.kept.specs.Ways.{accepted-not-refused, lineOf}
+use Rattle.kept.specs.Conditions.{contradiction}
+use Rattle.model.specs.State.{rowAt, idle}
 use Rattle.model.specs.Run.{call, run}
 use Rattle.model.specs.declared.Row.{Row}
 use Rattle.model.specs.declared.Catalogue.{Catalogue}
-use Rattle.model.specs.declared.Refusal.{Refusal}
-use Rattle.model.specs.declared.Verdict.{Verdict}
-use Rattle.model.specs.declared.Verdict.the-variants.{Accepted, Refused}
+use Rattle.model.specs.declared.Verdict.the-variants.{Accepted}
 use Rattle.model.specs.declared.Call.{Call}
 use Rattle.model.specs.declared.Call.the-variants.{Submit, Step}
 
@@ -31,7 +33,7 @@ use Rattle.model.specs.declared.Call.the-variants.{Submit, Step}
 pub record Ready (top : ℕ) (start : Catalogue) (calls : List Call) : Type 0 where
   pub sound : Sound top start
   pub owned : Owned start
-  pub at-rest : (w : ℕ) → idle (workerAt (start .workers) w .line) ≡ true
+  pub at-rest : (w : ℕ) → idle (lineOf start w) ≡ true
   pub fits : KeysFit top calls
 
 -- ---- The state after one more call ----
@@ -47,10 +49,12 @@ fits-before top (suc i) [] fits = tt
 fits-before top (suc i) (x ∷ xs) fits = (fits .0, fits-before top i xs (fits .1))
 
 module _ (start : Catalogue) (calls : List Call) where
-  pub state-after : (i : ℕ) (x : Call) → i < length calls → getD calls i x ≡ x → stateAt start calls (suc i) ≡ call (stateAt start calls i) x .state
+  pub state-after : (i : ℕ) (x : Call) → i < length calls → getD calls i x ≡ x
+      → stateAt start calls (suc i) ≡ call (stateAt start calls i) x .state
   unfolding stateAt run
   state-after i x inside made =
-      ap (run start) (take-suc calls i x inside) ∙ run-append start (take i calls) _ ∙ ap (λ (y : Call). call (run start (take i calls)) y .state) made
+      ap (run start) (take-suc calls i x inside) ∙ run-append start (take i calls) _
+      ∙ ap (λ (y : Call). call (run start (take i calls)) y .state) made
 
   state-past : (i : ℕ) → length calls ≤ i → stateAt start calls (suc i) ≡ stateAt start calls i
   unfolding stateAt
@@ -67,23 +71,20 @@ module _ (start : Catalogue) (calls : List Call) where
         → Submitted (stateAt start calls i) (stateAt start calls (suc i)) w code key element → Happening i
     steps : (w : ℕ) → Accepts start calls i (Step w) → StepTaken (stateAt start calls i) (stateAt start calls (suc i)) w → Happening i
 
--- a call that is accepted is not refused
-accepted-refused : {A : Type 0} {v : Verdict} {r : Refusal} → v ≡ Accepted → v ≡ Refused r → A
-accepted-refused h k = let z : _≡_ {A = ℕ} 0 1 = cc in absurd (omega arith)
-
 module _ {top : ℕ} {start : Catalogue} {calls : List Call} (ready : Ready top start calls) where
-  abbrev pub at : ℕ → Catalogue
-  at = stateAt start calls
+  -- the rows before the call at position i, and their table
+  abbrev pub RowsAt : ℕ → List Row
+  RowsAt i = stateAt start calls i .rows
 
-  abbrev pub tableAt : ℕ → Table
-  tableAt i = rowAt (stateAt start calls i .rows)
+  abbrev pub TableAt : ℕ → Table
+  TableAt i = tableOf (stateAt start calls i)
 
   pub sound-at : (i : ℕ) → Sound top (stateAt start calls i)
   unfolding stateAt
   sound-at i = run-keeps-sound top start (take i calls) (ready .sound) (fits-before top i calls (ready .fits))
 
   event-at : (i : ℕ) (x : Call) → Event (stateAt start calls i) x (call (stateAt start calls i) x)
-  event-at i x = call-event (stateAt start calls i) x (sound-at i .worker-count)
+  event-at i x = call-event (stateAt start calls i) x (sound-at i .sizes .workers)
 
   pub owned-at : (i : ℕ) → Owned (stateAt start calls i)
   unfolding stateAt run
@@ -91,11 +92,12 @@ module _ {top : ℕ} {start : Catalogue} {calls : List Call} (ready : Ready top 
   owned-at (suc i) = go (decLt i (length calls)) (owned-at i)
     where
       go : Dec (i < length calls) → Owned (stateAt start calls i) → Owned (stateAt start calls (suc i))
-      go (yes h) owned = subst Owned (sym (state-after start calls i (getD calls i (Step 0)) h (any-default calls i _ _ h)))
-          (event-keeps-owned (sound-at i) owned (event-at i (getD calls i (Step 0))))
-      go (no h) owned = subst Owned (sym (state-past start calls i (omega arith))) owned
+      go (yes h) owned =
+          let x = getD calls i (Step 0) in
+          rw (state-after start calls i x h (any-default calls i _ _ h)) (event-keeps-owned (sound-at i) owned (event-at i x))
+      go (no h) owned = rw (state-past start calls i (omega arith)) owned
 
-  pub structure-at : (i : ℕ) → Structure top (rowAt (stateAt start calls i .rows))
+  pub structure-at : (i : ℕ) → Structure top (TableAt i)
   structure-at i = sound-at i .structure
 
   -- ---- What happens ----
@@ -109,8 +111,8 @@ module _ {top : ℕ} {start : Catalogue} {calls : List Call} (ready : Ready top 
 
       go : Event (stateAt start calls i) (Submit w code key element) (call (stateAt start calls i) (Submit w code key element))
           → Submitted (stateAt start calls i) (stateAt start calls (suc i)) w code key element
-      go (refused r v same) = accepted-refused (a .accepted) v
-      go (stepped v small is q s) = let z : _≡_ {A = ℕ} 0 1 = cc in absurd (omega arith)
+      go (refused r v same) = absurd (accepted-not-refused (a .accepted) v)
+      go (stepped v small is q s) = contradiction (cc)
       go (submitted v code' key' element' small is q s) =
           let same-w : v ≡ w = cc in
           let same-code : code' ≡ code = cc in
@@ -123,8 +125,8 @@ module _ {top : ℕ} {start : Catalogue} {calls : List Call} (ready : Ready top 
     where
       go : Event (stateAt start calls i) (Step w) (call (stateAt start calls i) (Step w))
           → StepTaken (stateAt start calls i) (stateAt start calls (suc i)) w
-      go (refused r v same) = accepted-refused (a .accepted) v
-      go (submitted v code key element small is q s) = let z : _≡_ {A = ℕ} 0 1 = cc in absurd (omega arith)
+      go (refused r v same) = absurd (accepted-not-refused (a .accepted) v)
+      go (submitted v code key element small is q s) = contradiction (cc)
       go (stepped v small is q s) =
           let same-w : v ≡ w = cc in
           rw (state-after start calls i (Step w) (a .inside) (a .made)) (rw same-w at s)
@@ -139,7 +141,7 @@ module _ {top : ℕ} {start : Catalogue} {calls : List Call} (ready : Ready top 
       accepts y h is v = record {
         inside = h;
         made = any-default calls i y (Step 0) h ∙ is;
-        accepted = subst (λ (z : Call). call (stateAt start calls i) z .verdict ≡ Accepted) is v;
+        accepted = rw is at v;
       }
 
       go : i < length calls → Event (stateAt start calls i) x (call (stateAt start calls i) x) → Happening start calls i
@@ -159,13 +161,12 @@ module _ {top : ℕ} {start : Catalogue} {calls : List Call} (ready : Ready top 
 
   pub record Moved (i : ℕ) : Type 0 where
     pub worker : ℕ
-    pub move : Move top worker (rowAt (stateAt start calls i .rows)) (rowAt (stateAt start calls (suc i) .rows))
+    pub move : Move top worker (TableAt i) (TableAt (suc i))
 
   pub step-move : (i w : ℕ) → StepTaken (stateAt start calls i) (stateAt start calls (suc i)) w
-      → Move top w (rowAt (stateAt start calls i .rows)) (rowAt (stateAt start calls (suc i) .rows))
+      → Move top w (TableAt i) (TableAt (suc i))
   step-move i w s =
-      subst (λ (rows : List Row). Move top w (rowAt (stateAt start calls i .rows)) (rowAt rows)) (sym (s .rows-written))
-      (step-lawful top (stateAt start calls i) (stateAt start calls (suc i)) (sound-at i) w s .move)
+      rw (s .rows-written) (step-lawful top (stateAt start calls i) (stateAt start calls (suc i)) (sound-at i) w s .move)
 
   pub moved : (i : ℕ) → Moved i
   moved i = go (happening i)
@@ -178,6 +179,10 @@ module _ {top : ℕ} {start : Catalogue} {calls : List Call} (ready : Ready top 
   pub mover-at : ℕ → ℕ
   mover-at i = moved i .worker
 
-  pub move-at : (i : ℕ) → Move top (mover-at i) (rowAt (stateAt start calls i .rows)) (rowAt (stateAt start calls (suc i) .rows))
+  pub move-at : (i : ℕ) → Move top (mover-at i) (TableAt i) (TableAt (suc i))
   unfolding mover-at
   move-at i = moved i .move
+
+  -- a linked row, and what has become of it later
+  pub grown-at : (t u x : ℕ) → t ≤ u → IsLinked (TableAt t) x → Grown (TableAt t x) (TableAt u x)
+  grown-at = grown-later TableAt mover-at structure-at move-at

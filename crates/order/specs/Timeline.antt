@@ -10,12 +10,12 @@ use native.Mathlib.Decide.{ℕ-discrete}
 use Rattle.order.specs.Table.{Table, rightOf, markOf, backOf, rank, rankOf, IsLinked, Regular}
 use Rattle.order.specs.Structure.{Structure}
 use Rattle.order.specs.Moves.{Move}
-use Rattle.order.specs.Basics.{clash, bool-cases}
 use Rattle.order.specs.StructureFacts.{marked-not-head, marked-not-tail}
-use Rattle.order.specs.Kept.{move-keeps-structure, Grown, grown-refl, grown-trans, grow}
-use Rattle.order.specs.Hindsight.{mark-of, marked-by}
+use Rattle.order.specs.MovesKeep.{Grown, grown-refl, grown-trans, grow}
+use Rattle.order.specs.MarkOf.{mark-of, marked-by}
 use Rattle.order.specs.TableMap.{Has, Lacks, rank-of-save, lacks-between, lacks-marked}
 use Rattle.order.specs.MapMoves.{mark-removes}
+use Rattle.kept.specs.Conditions.{clash, bool-cases}
 
 -- the step that marked row x
 pub record MarkedWithin (R : ℕ → Table) (t u x : ℕ) : Type 0 where
@@ -50,12 +50,6 @@ pub record RegularWithin (R : ℕ → Table) (t u x n : ℕ) : Type 0 where
   pub regular : Regular (R time) x
   pub right : rightOf (R time) x ≡ n
 
--- a sound table at first is sound at every moment
-pub always-sound : {top : ℕ} (R : ℕ → Table) (who : ℕ → ℕ) → Structure top (R 0) → ((t : ℕ) → Move top (who t) (R t) (R (suc t)))
-    → (t : ℕ) → Structure top (R t)
-always-sound R who sound move zero = sound
-always-sound R who sound move (suc t) = move-keeps-structure (always-sound R who sound move t) (move t)
-
 module _ {top : ℕ} (R : ℕ → Table) (who : ℕ → ℕ) (sound : (t : ℕ) → Structure top (R t))
     (move : (t : ℕ) → Move top (who t) (R t) (R (suc t))) where
   grown-after : (t n x : ℕ) → IsLinked (R t) x → Grown (R t x) (R (t + n) x)
@@ -67,7 +61,7 @@ module _ {top : ℕ} (R : ℕ → Table) (who : ℕ → ℕ) (sound : (t : ℕ) 
   pub grown-later : (t u x : ℕ) → t ≤ u → IsLinked (R t) x → Grown (R t x) (R u x)
   grown-later t u x h l =
       let e : t + (u - t) ≡ u = omega arith in
-      subst (λ (s : ℕ). Grown (R t x) (R s x)) e (grown-after t (u - t) x l)
+      rw e at (grown-after t (u - t) x l)
 
   pub rank-later : (t u x : ℕ) → t ≤ u → IsLinked (R t) x → rankOf top (R u) x ≡ rankOf top (R t) x
   rank-later t u x h l = ap (rank top x) (grown-later t u x h l .key)
@@ -83,7 +77,7 @@ module _ {top : ℕ} (R : ℕ → Table) (who : ℕ → ℕ) (sound : (t : ℕ) 
   marked-after : (t n x : ℕ) → markOf (R t) x ≡ false → markOf (R (t + n)) x ≡ true → MarkedWithin R t (t + n) x
   marked-after t zero x h k = absurd (clash (rw add-zero at k) h)
   marked-after t (suc n) x h k =
-      subst (λ (u : ℕ). MarkedWithin R t u x) (sym (add-suc t n)) (go (bool-cases (markOf (R (t + n)) x)) (λ q. marked-after t n x h q))
+      rw (add-suc t n) (go (bool-cases (markOf (R (t + n)) x)) (λ q. marked-after t n x h q))
     where
       k' : markOf (R (suc (t + n))) x ≡ true
       k' = rw add-suc at k
@@ -119,7 +113,7 @@ module _ {top : ℕ} (R : ℕ → Table) (who : ℕ → ℕ) (sound : (t : ℕ) 
   pub marked-within : (t u x : ℕ) → t ≤ u → markOf (R t) x ≡ false → markOf (R u) x ≡ true → MarkedWithin R t u x
   marked-within t u x h k q =
       let e : t + (u - t) ≡ u = omega arith in
-      subst (λ (s : ℕ). MarkedWithin R t s x) e (marked-after t (u - t) x k (subst (λ (s : ℕ). markOf (R s) x ≡ true) (sym e) q))
+      rw e at (marked-after t (u - t) x k (rw e q))
 
   -- A row of key k was marked since t: k is absent right after that.
   pub lacks-since-marked : (t u x k : ℕ) → t ≤ u → markOf (R t) x ≡ false → markOf (R u) x ≡ true → R u x .key ≡ k → LacksWithin R t u k

@@ -2,8 +2,9 @@
 use Prim.Native.Nat.{ℕ, _≤_, _<_}
 use mathlib.Core.Path.{_≡_, ap, _∙_}
 use mathlib.Core.Logic.{_≢_}
+use mathlib.Core.Bool.{true, false}
 use native.Mathlib.Omega.{arith}
-use Rattle.order.specs.Table.{Table, rightOf, backOf, rank, rankOf, IsLinked, Regular}
+use Rattle.order.specs.Table.{Table, rightOf, backOf, rank, rankOf, IsLinked, Regular, markOf, flagOf}
 use Rattle.order.specs.Structure.{Structure}
 use Rattle.order.specs.Moves.{SameKey, SameRight, SameMark, SameBack, SameStanding}
 
@@ -59,3 +60,32 @@ module _ {top : ℕ} {R : Table} (R' : Table) (sound : Structure top R) (key= : 
     rank=' (rightOf R x),
     sound .gap x z (regular-before x l) (regular-before z k) (omega (arith, rank=' x, rank=' z)),
   ))
+
+-- right neighbours unchanged
+module _ (R R' : Table) (right= : SameRight R R') where
+  pub same-past-right : (x : ℕ) → rightOf R' (rightOf R' x) ≡ rightOf R (rightOf R x)
+  same-past-right x = cc (right= x, right= (rightOf R x))
+
+  pub same-right-marked : SameMark R R' → (x : ℕ) → markOf R' (rightOf R' x) ≡ true → markOf R (rightOf R x) ≡ true
+  same-right-marked mark= x k = cc (right= x, mark= (rightOf R x))
+
+-- keys, standings, marks and right neighbours unchanged, and each flag for a marked row is an old one
+module _ {top : ℕ} {R : Table} (R' : Table) (sound : Structure top R) (key= : SameKey R R') (standing= : SameStanding R R')
+    (mark= : SameMark R R') (right= : SameRight R R')
+    (flag-before : (x : ℕ) → flagOf R' x ≡ true → markOf R' (rightOf R' x) ≡ true → flagOf R x ≡ true) where
+  rank='' : (x : ℕ) → rankOf top R' x ≡ rankOf top R x
+  rank='' = same-rank top R R' key=
+
+  pub same-gap-past-marked : (x z : ℕ) → flagOf R' x ≡ true → markOf R' (rightOf R' x) ≡ true → Regular R' z
+      → rankOf top R' x < rankOf top R' z → rankOf top R' (rightOf R' (rightOf R' x)) ≤ rankOf top R' z
+  same-gap-past-marked x z h k l b =
+      let marked = same-right-marked R R' right= mark= x k in
+      let regular = same-regular-before R R' standing= mark= z l in
+      let gap = sound .gap-past-marked x z (flag-before x h k) marked regular (omega (arith, rank='' x, rank='' z)) in
+      rw (same-past-right R R' right= x) (omega (arith, rank='' z, rank='' (rightOf R (rightOf R x)), gap))
+
+  pub same-past-marked-unmarked : (x : ℕ) → flagOf R' x ≡ true → markOf R' (rightOf R' x) ≡ true
+      → markOf R' (rightOf R' (rightOf R' x)) ≡ false
+  same-past-marked-unmarked x h k =
+      let unmarked = sound .past-marked-unmarked x (flag-before x h k) (same-right-marked R R' right= mark= x k) in
+      rw (same-past-right R R' right= x) (mark= _ ∙ unmarked)

@@ -9,9 +9,9 @@ use native.Mathlib.Decide.{ℕ-discrete}
 use Rattle.order.specs.Table.{Table, rightOf, markOf, flagOf, rankOf, IsLinked, Regular}
 use Rattle.order.specs.Structure.{Structure}
 use Rattle.order.specs.Moves.{UnlinkMove}
-use Rattle.order.specs.Basics.{clash}
 use Rattle.order.specs.StructureFacts.{flagged-not-tail, flagged-right-linked, flagged-right-above, marked-not-tail}
 use Rattle.order.specs.Unchanged.{same-rank, same-regular-after, same-regular-before, same-below-tail, same-back-linked, same-back-below, same-same}
+use Rattle.kept.specs.Conditions.{clash}
 
 module _ {top : ℕ} {R R' : Table} {prev del next : ℕ} (sound : Structure top R) (move : UnlinkMove R R' prev del next) where
   rank= : (x : ℕ) → rankOf top R' x ≡ rankOf top R x
@@ -111,7 +111,8 @@ module _ {top : ℕ} {R R' : Table} {prev del next : ℕ} (sound : Structure top
       ap (rankOf top R') (past-right= x h k),
       rank= (rightOf R (rightOf R x)),
       rank= z,
-      sound .gap-past-marked x z (flagged-before x h .flagged) (right-marked-before x h k) (regular-before z l) (omega (arith, rank= x, rank= z)),
+      sound .gap-past-marked x z (flagged-before x h .flagged) (right-marked-before x h k) (regular-before z l)
+          (omega (arith, rank= x, rank= z)),
     );
     flag-regular = λ x h. regular-after x (sound .flag-regular x (flagged-before x h .flagged));
     flag-not-at-tail = move .flag-other 1 (λ e. flagged-not-tail sound prev (move .prev-flagged) (sym e)) ∙ sound .flag-not-at-tail;

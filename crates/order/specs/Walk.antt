@@ -1,22 +1,22 @@
 -- The model's walk from the head: in a sound table of 128 rows it comes to the tail within 127 moves, so it is not cut off, and it meets
 -- exactly the rows on the chain but the two ends, each once and in rising rank.
 use Prim.Native.Nat.{ℕ, zero, suc, _≤_, _<_}
-use mathlib.Core.Path.{_≡_, refl, ap, sym, _∙_, subst}
+use mathlib.Core.Path.{_≡_, refl, ap, _∙_}
 use mathlib.Core.Logic.{_≢_, _⊎_, inl, inr}
 use mathlib.Core.List.{List, [], _∷_, List·Memᴰ·head, List·Memᴰ·tail, List·Memᴰ·not-nil, List·Memᴰ·cases-cons}
 use native.Mathlib.Omega.{arith}
-use native.Mathlib.Decide.{ℕ-discrete, decLt}
-use lib.ListN.{length, List·getD-eq-default}
+use native.Mathlib.Decide.{ℕ-discrete}
+use lib.ListN.{length}
 use borrow.Author.Tests.{eq-eqb, ne-eqb}
 use Rattle.model.specs.declared.Row.{Row}
-use Rattle.model.specs.State.{rowAt, freeRow}
+use Rattle.model.specs.State.{rowAt}
 use Rattle.model.specs.Count.{walk}
 use Rattle.order.specs.Table.{Table, rightOf, rankOf, IsLinked}
 use Rattle.order.specs.Structure.{Structure}
-use Rattle.order.specs.Basics.{free-linked}
 use Rattle.order.specs.StructureFacts.{above-not-head}
 use Rattle.order.specs.Distinct.{Among, Distinct, no-number, one-more, distinct-below}
 use Rattle.order.specs.Chain.{OnChain, at-head, by-right}
+use Rattle.kept.specs.Standing.{linked-inside}
 
 -- the row that so many moves from row x come to
 unfoldable pub moved : Table → ℕ → ℕ → ℕ
@@ -95,7 +95,7 @@ module _ {top : ℕ} {R : Table} (sound : Structure top R) where
       up = sound .right-above x l h
 
       go : (y ≡ rightOf R x) ⊎ Among y xs → (Among y xs → Met (rightOf R x) y) → Met x y
-      go (inl e) further = subst (Met x) (sym e) (record { linked = linked; above = up; not-tail = k; on-chain = λ c. by-right c h })
+      go (inl e) further = rw e (record { linked = linked; above = up; not-tail = k; on-chain = λ c. by-right c h })
       go (inr q) further =
           let f = further q in
           record {
@@ -130,14 +130,6 @@ module _ {top : ℕ} {R : Table} (sound : Structure top R) where
       go : (y ≡ 1) ⊎ ((y ≡ 0) ⊎ Among y xs) → (rightOf R y ≡ 1) ⊎ ((rightOf R y ≡ 0) ⊎ Among (rightOf R y) xs)
       go (inl e) = absurd (h e)
       go (inr at) = next (whole-next c at)
-
--- past the end of a list of rows stands the free row, so a linked row has a number below the length
-pub linked-inside : (rows : List Row) (x : ℕ) → IsLinked (rowAt rows) x → x < length rows
-linked-inside rows x l = go (decLt x (length rows))
-  where
-    go : Dec (x < length rows) → x < length rows
-    go (yes h) = h
-    go (no h) = absurd (free-linked (ap (λ (r : Row). r .standing) (List·getD-eq-default rows freeRow (omega arith))) l)
 
 -- the model's walk from the head over these rows
 pub record WalkMeetsChain (top : ℕ) (rows : List Row) : Type 0 where

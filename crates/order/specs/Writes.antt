@@ -1,18 +1,18 @@
 -- The rows that a line writes, read as a move: one row written leaves every field that it keeps as it was everywhere.
-use Prim.Native.Nat.{ℕ, suc, _≤_, _<_}
+use Prim.Native.Nat.{ℕ, _<_}
 use mathlib.Core.Bool.{true, false}
 use mathlib.Core.Path.{_≡_, refl, ap, sym, _∙_, subst}
-use mathlib.Core.Logic.{_≢_, _⊎_, inl, inr}
+use mathlib.Core.Logic.{_≢_, _⊎_}
 use mathlib.Core.List.{List}
 use native.Mathlib.Omega.{arith}
-use native.Mathlib.Decide.{ℕ-discrete, decLt}
-use lib.ListN.{length, set, List·getD-eq-default, length-set}
+use native.Mathlib.Decide.{ℕ-discrete}
+use lib.ListN.{length, set, length-set}
 use lib.Seq.{getD-set-same, getD-set-other}
-use Rattle.order.specs.Basics.{clash}
-use Rattle.order.specs.Table.{Table, rightOf, markOf, flagOf, backOf, standingOf, rankOf, IsLinked}
+use Rattle.order.specs.Table.{Table, markOf, flagOf, backOf, standingOf, rankOf, IsLinked}
 use Rattle.order.specs.Structure.{Helpable, flagged-for, already-marked}
 use Rattle.order.specs.Moves.{LinkMove, MarkMove, UnlinkMove, FlagMove, BacklinkMove, PrivateMove}
-use Rattle.order.specs.Facts.{Frozen, Helping, Holding}
+use Rattle.order.specs.Facts.{Frozen, Helping}
+use Rattle.kept.specs.Conditions.{clash}
 use Rattle.model.specs.State.{rowAt, freeRow, succOf}
 use Rattle.model.specs.Cas.{withSucc}
 use Rattle.model.specs.Insert.{linkedRow}
@@ -20,7 +20,7 @@ use Rattle.model.specs.HelpFlagged.{withBacklink}
 use Rattle.model.specs.Step.{written}
 use Rattle.model.specs.declared.Row.{Row}
 use Rattle.model.specs.declared.Succ.{Succ}
-use Rattle.model.specs.declared.Standing.the-variants.{Free, Held, Linked}
+use Rattle.model.specs.declared.Standing.the-variants.{Free, Held}
 use Rattle.model.specs.declared.Write.the-variants.{OneRow, TwoRows}
 
 -- the table after one row is written, and after two
@@ -32,21 +32,6 @@ pub record TwoWritten (R R' : Table) (i : ℕ) (r : Row) (j : ℕ) (s : Row) : T
   pub first : R' i ≡ r
   pub second : R' j ≡ s
   pub other : (x : ℕ) → x ≢ i → x ≢ j → R' x ≡ R x
-
--- a row that is not free is one of the list: past the end stands a free row
-pub inside : (rows : List Row) (x : ℕ) → standingOf (rowAt rows) x ≢ Free → x < length rows
-inside rows x used = elim (decLt x (length rows)) [
-  | yes h ↦ h
-  | no h ↦
-      let past : length rows ≤ x = omega arith in
-      absurd (used (ap (λ (r : Row). r .standing) (List·getD-eq-default rows freeRow past)))
-]
-
-pub linked-inside : (rows : List Row) (x : ℕ) → IsLinked (rowAt rows) x → x < length rows
-linked-inside rows x l = inside rows x (λ e. let z : _≡_ {A = ℕ} 0 1 = cc in omega arith)
-
-pub held-inside : (rows : List Row) (x w : ℕ) → standingOf (rowAt rows) x ≡ Held w → x < length rows
-held-inside rows x w h = inside rows x (λ e. let z : _≡_ {A = ℕ} 0 1 = cc in omega arith)
 
 pub one-written : (rows : List Row) (i : ℕ) (r : Row) → i < length rows → OneWritten (rowAt rows) (rowAt (written rows (OneRow i r))) i r
 unfolding written
@@ -82,19 +67,19 @@ module _ {R R' : Table} {i : ℕ} {r : Row} {j : ℕ} {s : Row} (put : TwoWritte
 pub unlink-written : {R R' : Table} {prev del right : ℕ} → R prev .succ ≡ succOf del false true → Frozen R del right
     → OneWritten R R' prev (withSucc (R prev) (succOf right false false)) → UnlinkMove R R' prev del right
 unlink-written found frozen put = record {
-  prev-flagged = ap (λ (s : Succ). s .flag) found;
-  prev-right = ap (λ (s : Succ). s .right) found;
+  prev-flagged = cc;
+  prev-right = cc;
   del-marked = frozen .mark-set;
   del-right = frozen .right-is;
   key= = kept put (λ (r : Row). r .key) refl;
   element= = kept put (λ (r : Row). r .element) refl;
-  mark= = kept put (λ (r : Row). r .succ .mark) (sym (ap (λ (s : Succ). s .mark) found));
+  mark= = kept put (λ (r : Row). r .succ .mark) (cc);
   back= = kept put (λ (r : Row). r .backlink) refl;
   standing= = kept put (λ (r : Row). r .standing) refl;
   flag-prev = ap (λ (r : Row). r .succ .flag) (put .here);
-  flag-other = λ x e. ap (λ (r : Row). r .succ .flag) (put .other x e);
+  flag-other = λ x e. cc (put .other x e);
   right-next = ap (λ (r : Row). r .succ .right) (put .here);
-  right-other = λ x e. ap (λ (r : Row). r .succ .right) (put .other x e);
+  right-other = λ x e. cc (put .other x e);
 }
 
 -- TryFlag's line 4, C&S succeeded
@@ -103,17 +88,17 @@ pub flag-written : {R R' : Table} {prev target : ℕ} → R prev .succ ≡ succO
 flag-written found linked not-tail target-not-tail put = record {
   prev-regular = record { linked = linked; unmarked = ap (λ (s : Succ). s .mark) found };
   prev-not-tail = not-tail;
-  prev-unflagged = ap (λ (s : Succ). s .flag) found;
-  prev-right = ap (λ (s : Succ). s .right) found;
+  prev-unflagged = cc;
+  prev-right = cc;
   target-not-tail = target-not-tail;
   key= = kept put (λ (r : Row). r .key) refl;
   element= = kept put (λ (r : Row). r .element) refl;
-  mark= = kept put (λ (r : Row). r .succ .mark) (sym (ap (λ (s : Succ). s .mark) found));
-  right= = kept put (λ (r : Row). r .succ .right) (sym (ap (λ (s : Succ). s .right) found));
+  mark= = kept put (λ (r : Row). r .succ .mark) (cc);
+  right= = kept put (λ (r : Row). r .succ .right) (cc);
   back= = kept put (λ (r : Row). r .backlink) refl;
   standing= = kept put (λ (r : Row). r .standing) refl;
   flag-prev = ap (λ (r : Row). r .succ .flag) (put .here);
-  flag-other = λ x e. ap (λ (r : Row). r .succ .flag) (put .other x e);
+  flag-other = λ x e. cc (put .other x e);
 }
 
 -- TryMark's line 3, C&S succeeded
@@ -126,17 +111,17 @@ mark-written {R} {R'} {prev} {del} found helping put = made (helping .help)
     made (flagged-for h e) = record {
       prev-flagged = h;
       prev-right = e;
-      del-unflagged = ap (λ (s : Succ). s .flag) found;
-      del-unmarked = ap (λ (s : Succ). s .mark) found;
+      del-unflagged = cc;
+      del-unmarked = cc;
       del-back = helping .back-is;
       key= = kept put (λ (r : Row). r .key) refl;
       element= = kept put (λ (r : Row). r .element) refl;
-      right= = kept put (λ (r : Row). r .succ .right) (sym (ap (λ (s : Succ). s .right) found));
-      flag= = kept put (λ (r : Row). r .succ .flag) (sym (ap (λ (s : Succ). s .flag) found));
+      right= = kept put (λ (r : Row). r .succ .right) (cc);
+      flag= = kept put (λ (r : Row). r .succ .flag) (cc);
       back= = kept put (λ (r : Row). r .backlink) refl;
       standing= = kept put (λ (r : Row). r .standing) refl;
       mark-del = ap (λ (r : Row). r .succ .mark) (put .here);
-      mark-other = λ x e. ap (λ (r : Row). r .succ .mark) (put .other x e);
+      mark-other = λ x e. cc (put .other x e);
     }
 
 -- HelpFlagged's line 1
@@ -150,8 +135,8 @@ backlink-written help put = record {
   right= = kept put (λ (r : Row). r .succ .right) refl;
   flag= = kept put (λ (r : Row). r .succ .flag) refl;
   standing= = kept put (λ (r : Row). r .standing) refl;
-  back-del = ap (λ (r : Row). r .backlink) (put .here);
-  back-other = λ x e. ap (λ (r : Row). r .backlink) (put .other x e);
+  back-del = cc (put .here);
+  back-other = λ x e. cc (put .other x e);
 }
 
 -- Insert's lines 4, 10 and 20
@@ -171,13 +156,14 @@ module _ (top : ℕ) {w : ℕ} {R R' : Table} {prev new next : ℕ} (found : R p
     (linked : IsLinked R prev) (not-tail : prev ≢ 1) (held : standingOf R new ≡ Held w) (unmarked : markOf R new ≡ false)
     (unflagged : flagOf R new ≡ false) (back : backOf R new ≡ 0)
     (below : rankOf top R prev < rankOf top R new) (above : rankOf top R new < rankOf top R next)
-    (put : TwoWritten R R' new (linkedRow (withSucc (R new) (succOf next false false))) prev (withSucc (R prev) (succOf new false false))) where
+    (put : TwoWritten R R' new (linkedRow (withSucc (R new) (succOf next false false))) prev
+    (withSucc (R prev) (succOf new false false))) where
   pub link-written : LinkMove top w R R' prev new next
   link-written = record {
     prev-regular = record { linked = linked; unmarked = ap (λ (s : Succ). s .mark) found };
     prev-not-tail = not-tail;
-    prev-right = ap (λ (s : Succ). s .right) found;
-    prev-unflagged = ap (λ (s : Succ). s .flag) found;
+    prev-right = cc;
+    prev-unflagged = cc;
     new-held = held;
     new-unmarked = unmarked;
     new-unflagged = unflagged;
@@ -186,15 +172,15 @@ module _ (top : ℕ) {w : ℕ} {R R' : Table} {prev new next : ℕ} (found : R p
     above = above;
     key= = kept-both put (λ (r : Row). r .key) refl refl;
     element= = kept-both put (λ (r : Row). r .element) refl refl;
-    mark= = kept-both put (λ (r : Row). r .succ .mark) (sym unmarked) (sym (ap (λ (s : Succ). s .mark) found));
-    flag= = kept-both put (λ (r : Row). r .succ .flag) (sym unflagged) (sym (ap (λ (s : Succ). s .flag) found));
+    mark= = kept-both put (λ (r : Row). r .succ .mark) (sym unmarked) (cc);
+    flag= = kept-both put (λ (r : Row). r .succ .flag) (sym unflagged) (cc);
     back= = kept-both put (λ (r : Row). r .backlink) refl refl;
-    new-linked = ap (λ (r : Row). r .standing) (put .first);
+    new-linked = cc (put .first);
     standing-other = λ x e. elim (ℕ-discrete x prev) [
       | yes q ↦ ap (λ (y : ℕ). R' y .standing) q ∙ ap (λ (r : Row). r .standing) (put .second) ∙ ap (λ (y : ℕ). R y .standing) (sym q)
       | no q ↦ ap (λ (r : Row). r .standing) (put .other x e q)
     ];
     right-prev = ap (λ (r : Row). r .succ .right) (put .second);
     right-new = ap (λ (r : Row). r .succ .right) (put .first);
-    right-other = λ x e f. ap (λ (r : Row). r .succ .right) (put .other x f e);
+    right-other = λ x e f. cc (put .other x f e);
   }

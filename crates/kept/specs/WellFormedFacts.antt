@@ -4,11 +4,10 @@ use mathlib.Core.Bool.{true, false, _&&_}
 use mathlib.Core.Path.{_≡_, refl}
 use mathlib.Core.Logic.{_≢_}
 use mathlib.Core.List.{List}
-use native.Mathlib.Omega.{arith}
 use lib.Dec.{ltb, eqb}
 use borrow.Author.Tests.{ltb-true, lt-ltb, leb-true, le-leb, eqb-true, eq-eqb, ne-eqb}
 use Rattle.model.specs.State.{rowAt, workerAt, idleWorker, freeRow}
-use Rattle.model.specs.WellFormed.{allFrom, isRow, rowNumbers, notBoth, isLinked, endsLinked, holderNames, heldBy, namedIsHeld, heldRow, noRowHeld, lineNumbers, pendingNumbers, fewHelps, helpsInside, insideHelpFlagged, rowWell, workerWell, wellFormed}
+use Rattle.model.specs.WellFormed.{allFrom, isRow, rowNumbers, notBoth, endsLinked, holderNames, namedIsHeld, heldRow, noRowHeld, lineNumbers, pendingNumbers, fewHelps, helpsInside, insideHelpFlagged, rowWell, workerWell, wellFormed}
 use Rattle.model.specs.Choices.{if-known}
 use Rattle.model.specs.declared.Row.{Row}
 use Rattle.model.specs.declared.Worker.{Worker}
@@ -16,8 +15,9 @@ use Rattle.model.specs.declared.Catalogue.{Catalogue}
 use Rattle.model.specs.declared.Standing.{Standing}
 use Rattle.model.specs.declared.Standing.the-variants.{Free, Held, Linked}
 use Rattle.model.specs.declared.Answer.the-variants.{NoAnswer}
-use Rattle.kept.specs.Tests.{clash, both, both-hold, every, if-every}
 use Rattle.kept.specs.Sized.{Sized}
+use Rattle.kept.specs.Conditions.{clash, both, both-hold, every, if-every}
+use Rattle.kept.specs.Standing.{is-linked, is-held, free-not-held, held-not-linked, one-holder}
 
 -- ---- The clauses ----
 
@@ -48,30 +48,6 @@ pub record WellFormed (c : Catalogue) : Type 0 where
   pub rows : (i : ℕ) → i < 128 → RowWell (c .workers) i (rowAt (c .rows) i)
   pub workers : (w : ℕ) → w < 8 → WorkerWell (c .rows) w (workerAt (c .workers) w)
 
--- ---- Standings ----
-
-is-linked : (s : Standing) → isLinked s ≡ true → s ≡ Linked
-is-linked Free h = absurd (clash h refl)
-is-linked (Held w) h = absurd (clash h refl)
-is-linked Linked h = refl
-
-is-held : (w : ℕ) (s : Standing) → heldBy w s ≡ true → s ≡ Held w
-is-held w Free h = absurd (clash h refl)
-is-held w (Held v) h = cc (eqb-true v w h)
-is-held w Linked h = absurd (clash h refl)
-
-pub free-not-held : {s : Standing} {w : ℕ} → s ≡ Free → s ≡ Held w → ⊥
-free-not-held free held = let z : _≡_ {A = ℕ} 0 1 = cc in omega arith
-
-pub linked-not-held : {s : Standing} {w : ℕ} → s ≡ Linked → s ≡ Held w → ⊥
-linked-not-held linked held = let z : _≡_ {A = ℕ} 0 1 = cc in omega arith
-
-pub free-not-linked : {s : Standing} → s ≡ Free → s ≡ Linked → ⊥
-free-not-linked free linked = let z : _≡_ {A = ℕ} 0 1 = cc in omega arith
-
-pub one-holder : {s : Standing} {v w : ℕ} → s ≡ Held v → s ≡ Held w → v ≡ w
-one-holder held again = cc
-
 -- ---- A row ----
 
 module _ (workers : List Worker) (i : ℕ) where
@@ -83,7 +59,7 @@ module _ (workers : List Worker) (i : ℕ) where
       let same : u ≡ v = one-holder {s = Held u} refl e in
       let parts = both (ltb u 8) _ h in
       (rw same at (ltb-true u 8 (parts .0)), rw same at (eqb-true (heldRow (workerAt workers u .line)) i (parts .1)))
-  holder-named Linked h v e = absurd (linked-not-held refl e)
+  holder-named Linked h v e = absurd (held-not-linked e refl)
 
   if-holder-named : (s : Standing) → ((v : ℕ) → s ≡ Held v → (v < 8) × (heldRow (workerAt workers v .line) ≡ i))
       → holderNames workers i s ≡ true

@@ -9,7 +9,6 @@ use Rattle.model.specs.declared.Standing.the-variants.{Linked}
 use Rattle.order.specs.Table.{Table, markOf, rank, rankOf, IsLinked}
 use Rattle.order.specs.Structure.{Structure}
 use Rattle.order.specs.Moves.{Move, nothing, links, marks, unlinks, flags, backlinks, private}
-use Rattle.order.specs.Basics.{clash, held-linked}
 use Rattle.order.specs.StructureFacts.{help-back}
 use Rattle.order.specs.LinkKeeps.{link-keeps-structure}
 use Rattle.order.specs.MarkKeeps.{mark-keeps-structure}
@@ -17,9 +16,11 @@ use Rattle.order.specs.UnlinkKeeps.{unlink-keeps-structure}
 use Rattle.order.specs.FlagKeeps.{flag-keeps-structure}
 use Rattle.order.specs.BacklinkKeeps.{backlink-keeps-structure}
 use Rattle.order.specs.PrivateKeeps.{private-keeps-structure, linked-unchanged}
+use Rattle.kept.specs.Conditions.{clash}
+use Rattle.kept.specs.Standing.{held-not-linked}
 
 pub move-keeps-structure : {top w : ℕ} {R R' : Table} → Structure top R → Move top w R R' → Structure top R'
-move-keeps-structure {top = top} sound (nothing e) = subst (Structure top) e sound
+move-keeps-structure {top = top} sound (nothing e) = rw e at sound
 move-keeps-structure sound (links move) = link-keeps-structure sound move
 move-keeps-structure sound (marks move) = mark-keeps-structure sound move
 move-keeps-structure sound (unlinks move) = unlink-keeps-structure sound move
@@ -52,7 +53,7 @@ grown-trans g h = record {
 pub grow : {top w : ℕ} {R R' : Table} → Structure top R → Move top w R R' → (x : ℕ) → IsLinked R x → Grown (R x) (R' x)
 grow {R = R} sound (nothing e) x l = subst (λ (S : Table). Grown (R x) (S x)) e (grown-refl l)
 grow sound (links move) x l = record {
-  linked = move .standing-other x (λ e. held-linked (move .new-held) (cc)) ∙ l;
+  linked = move .standing-other x (λ e. held-not-linked (move .new-held) (cc)) ∙ l;
   key = move .key= x;
   element = move .element= x;
   mark = λ h. move .mark= x ∙ h;
