@@ -83,22 +83,26 @@ fn one_less(n: u8) -> u8
     n - 1
 }
 
-fn help_at(helps: [Pending; 8], i: u8) -> Pending
+fn help_at(helps: [Pending; Catalogue::HELPS], i: u8) -> Pending
     ensures { λ r. ⌜ r ≡ helpAt helps i ⌝ }
 {
     let j = i as usize;
-    if j < 8 {
+    if j < Catalogue::HELPS {
         return helps[j];
     }
     Pending { prev: 0, del: 0 }
 }
 
-fn with_help(helps: [Pending; 8], i: u8, help: Pending) -> [Pending; 8]
+fn with_help(
+    helps: [Pending; Catalogue::HELPS],
+    i: u8,
+    help: Pending,
+) -> [Pending; Catalogue::HELPS]
     ensures { λ r. ⌜ r ≡ set helps i help ⌝ }
 {
     let mut after = helps;
     let j = i as usize;
-    if j < 8 {
+    if j < Catalogue::HELPS {
         after[j] = help;
         return after;
     }
@@ -151,7 +155,7 @@ fn fresh_worker(line: Line) -> Worker
     let none = Pending { prev: 0, del: 0 };
     Worker {
         line: line,
-        helps: [none; 8],
+        helps: [none; Catalogue::HELPS],
         count: 0,
     }
 }

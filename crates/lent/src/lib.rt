@@ -74,7 +74,7 @@ fn walking_from(at: usize, left: u32, saves: u32) -> Walk
 fn start(length: usize) -> Walk
     ensures { λ r. ⌜ r ≡ started length ⌝ }
 {
-    if length == 128 {
+    if length == Catalogue::ROWS {
         return checking_from(0);
     }
     over(Verdict::Refused(Refusal::NotWellFormed), 0)
@@ -151,7 +151,7 @@ pub fn count(rows: &[Row]) -> Counted
 }
 
 // The rows are an array of its own, which it lends.
-fn count_array(rows: [Row; 128]) -> Counted
+fn count_array(rows: [Row; Catalogue::ROWS]) -> Counted
     ensures { λ r. ⌜ r ≡ count rows ⌝ }
 {
     count(&rows)

@@ -1,6 +1,6 @@
 -- Which rows a line is given: the row of its access, and the row behind it. Where a line reads no second row, any row will do.
 use Prim.Native.Nat.{ℕ}
-use mathlib.Core.Bool.{Bool, true, false}
+use mathlib.Core.Bool.{Bool, false}
 use Rattle.model.specs.declared.Row.{Row}
 use Rattle.model.specs.declared.SearchFrame.{SearchFrame}
 use Rattle.model.specs.declared.SearchLine.{SearchLine}

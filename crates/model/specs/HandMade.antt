@@ -1,7 +1,7 @@
 -- States made by hand. Single calls on them, for what no answer of a schedule shows: what a line leaves in the row that it writes and in
 -- its worker's record, and where the pending helps end. And states that are not well formed, each by one clause.
 use Prim.Native.Nat.{ℕ}
-use mathlib.Core.Bool.{Bool, true, false}
+use mathlib.Core.Bool.{true, false}
 use mathlib.Core.Path.{_≡_, refl}
 use mathlib.Core.List.{List, [], _∷_, map}
 use lib.ListN.{set}

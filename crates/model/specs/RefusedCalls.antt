@@ -2,9 +2,9 @@
 use Prim.Native.Nat.{ℕ, zero, suc, _≤_, _<_}
 use mathlib.Core.Bool.{Bool, true, false, not}
 use mathlib.Core.Path.{_≡_, refl}
-use mathlib.Core.List.{List, [], _∷_}
+use mathlib.Core.List.{List, _∷_}
 use native.Mathlib.Omega.{arith}
-use lib.Dec.{ltb, leb, eqb}
+use lib.Dec.{ltb}
 use borrow.Author.Tests.{ltb-true, ltb-false, leb-true, leb-false, ne-eqb, not-true, not-false}
 use Rattle.model.specs.State.{if_then_else_, workerAt, idle}
 use Rattle.model.specs.WellFormed.{wellFormed}

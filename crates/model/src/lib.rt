@@ -170,13 +170,13 @@ pub struct Pending {
 // The first `count` of `helps` are the pending helps, the last of them the first to run again.
 pub struct Worker {
     pub line: Line,
-    pub helps: [Pending; 8],
+    pub helps: [Pending; Catalogue::HELPS],
     pub count: u8,
 }
 
 pub struct Catalogue {
-    pub rows: [Row; 128],
-    pub workers: [Worker; 8],
+    pub rows: [Row; Catalogue::ROWS],
+    pub workers: [Worker; Catalogue::WORKERS],
 }
 
 // ---- What a line does ----
@@ -277,7 +277,7 @@ pub fn idle_worker(a: Answer) -> Worker
     let none = Pending { prev: 0, del: 0 };
     Worker {
         line: Line::Idle(a),
-        helps: [none; 8],
+        helps: [none; Catalogue::HELPS],
         count: 0,
     }
 }
@@ -299,7 +299,7 @@ impl Catalogue {
         rows[0] = head;
         rows[1] = tail;
         let idle = idle_worker(Answer::NoAnswer);
-        let workers = [idle; 8];
+        let workers = [idle; Self::WORKERS];
         Catalogue { rows, workers }
     }
 }

@@ -9,7 +9,6 @@ ghost use Rattle.model.specs.State.{rowAt, workerAt};
 ghost use Rattle.model.specs.WellFormed.{allFrom, isRow, rowNumbers, searchCallerNumbers, searchLineNumbers, insertLineNumbers, helpCallerNumbers, helpLineNumbers, lineNumbers, pendingNumbers, notBoth, isLinked, endsLinked, insideHelpFlagged, fewHelps, helpsInside, heldInSearch, heldInInsert, heldInHelp, heldRow, holderNames, heldBy, namedIsHeld, rowWell, workerWell, wellFormed};
 ghost use Rattle.model.specs.declared.Row.{Row};
 ghost use Rattle.model.specs.declared.Worker.{Worker};
-ghost use Rattle.accesses.specs.Slots.{rowSlot};
 ghost use Rattle.well_formed.specs.Holder.{holder};
 use accesses::row_or_free;
 use accesses::row_slot;
@@ -141,11 +140,11 @@ fn pending_numbers(h: Pending) -> bool
 }
 
 // The slots that are not in use too.
-fn helps_numbers(helps: [Pending; 8]) -> bool
+fn helps_numbers(helps: [Pending; Catalogue::HELPS]) -> bool
     ensures { λ r. ⌜ r ≡ allFrom pendingNumbers 0 helps ⌝ }
 {
     let mut i: usize = 0;
-    while i < 8 {
+    while i < Catalogue::HELPS {
         let h = helps[i];
         if pending_numbers(h) {
             i += 1;

@@ -1,6 +1,6 @@
 -- `well_formed` meets its contract. Each loop's invariant: the test of all its rows, or workers, is the test of those from the index
 -- on; in the second loop, that the rows passed. The measures are what is left.
-use Prim.Native.Nat.{ℕ, _≤_, _-_}
+use Prim.Native.Nat.{_≤_, _-_}
 use borrow.Author.Needs.{needs}
 use mathlib.Core.Path.{_≡_, refl, _∙_, sym, ap}
 use mathlib.Core.Bool.{true}

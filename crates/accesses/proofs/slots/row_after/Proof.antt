@@ -1,6 +1,6 @@
 -- `row_after` meets its contract: below 128 the slot is the row's own; from 128 on neither store changes anything, the one because
 -- it stores what stands there, the other because there is no such row.
-use mathlib.Core.Path.{_≡_, _∙_, sym, ap}
+use mathlib.Core.Path.{_∙_, sym}
 use native.Mathlib.Omega.{arith}
 use lib.Seq.{set-out}
 use Rattle.accesses.specs.Tests.{tests}
