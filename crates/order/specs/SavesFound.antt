@@ -76,7 +76,7 @@ module _ {top : ℕ} {start : Catalogue} {calls : List Call} (ready : Ready top 
       (rw (insert-is k e) at (add-agrees ready s w 2 k e f (ended ready s w 2 k e f Added request finished)))
 
   kept : (t : ℕ) → f < t → mapAt ready t k ≡ some e → Cause ready t → mapAt ready (suc t) k ≡ some e
-  kept t later held (same-map q) = ap (λ (m : PlainMap). m k) q ∙ held
+  kept t later held (same-map q) = cc
   kept t later held (changed-by r (adds v code key element x)) =
       add-keeps (mapAt ready t) (mapAt ready (suc t)) k e (operation code key element) (add-agrees ready r v code key element t x) held
   kept t later held (changed-by r (removes v code key element y run is some-row unmarked marked)) = go (ℕ-discrete k key)
