@@ -91,10 +91,6 @@ module _ {top : ℕ} {start : Catalogue} {calls : List Call} (ready : Ready top 
       k : Worker
       k = workerIn (stateAt start calls i) w
 
-      -- where this worker would go from line l
-      from-line : Line → Line
-      from-line l = lineEffect rows w (k .count) (helpAt (k .helps) (k .count - 1)) l .line
-
       only-if : lineAt start calls (suc i) w ≡ Idle Full → LooksForRow start calls i w × NoRowLeft start calls i
       only-if is =
           let leads = line-leads rows w (k .count) (helpAt (k .helps) (k .count - 1)) (k .line) (taken .was-busy) in
