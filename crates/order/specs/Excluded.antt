@@ -27,7 +27,7 @@ use Rattle.model.specs.declared.Call.the-variants.{Step}
 
 module _ (m : PlainMap) (k e : ℕ) (is : m k ≡ some e) where
   held-after : (o : Operation) → k ≡ keyOf o → o ≢ delete k → holdingAfter o (m (keyOf o)) ≡ some e
-  held-after (search j) same other = ap m (sym same) ∙ is
+  held-after (search j) same other = cc
   held-after (insert j x) same other = ap (holdingAfter (insert j x)) (ap m (sym same) ∙ is)
   held-after (delete j) same other = absurd (other (ap delete (sym same)))
 

@@ -93,7 +93,7 @@ module _ {top : ℕ} {start : Catalogue} {calls : List Call} (ready : Ready top 
           (step-lawful top _ _ (sound-at ready at) w taken .removal)
 
       removed-then : removedAt ready (suc at) w ≡ m .row
-      removed-then = ap removedRow (next-line taken) ∙ claimed .0
+      removed-then = cc (next-line taken, claimed .0)
 
       go : Course ready s w 3 (m .key) (m .element) (length calls) → RemovesMarked ready w
       go (over f a h e) = absurd (ended-not-running ready s w f (length calls) a (e .finished) h (m .unfinished))

@@ -91,10 +91,6 @@ module _ {top : ℕ} {start : Catalogue} {calls : List Call} (ready : Ready top 
       k : Worker
       k = workerIn (stateAt start calls i) w
 
-      -- where this worker would go from line l
-      from-line : Line → Line
-      from-line l = lineEffect rows w (k .count) (helpAt (k .helps) (k .count - 1)) l .line
-
       only-if : lineAt start calls (suc i) w ≡ Idle Full → LooksForRow start calls i w × NoRowLeft start calls i
       only-if is =
           let leads = line-leads rows w (k .count) (helpAt (k .helps) (k .count - 1)) (k .line) (taken .was-busy) in
@@ -102,4 +98,4 @@ module _ {top : ℕ} {start : Catalogue} {calls : List Call} (ready : Ready top 
           ((n .next, n .frame, n .at-line-4), used i (n .none-free))
 
       if-so : LooksForRow start calls i w × NoRowLeft start calls i → lineAt start calls (suc i) w ≡ Idle Full
-      if-so ((next, f, at-line-4), left) = next-line taken ∙ ap from-line at-line-4 ∙ line-4-full rows w f next (not-free i left)
+      if-so ((next, f, at-line-4), left) = cc (next-line taken, line-4-full rows w f next (not-free i left))

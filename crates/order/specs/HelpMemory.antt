@@ -58,7 +58,7 @@ module _ (top : ℕ) (rowsAt : ℕ → List Row) (who : ℕ → ℕ) (sound : (i
   returns-tell k e prev del right (Delete6 target true) marked (same, (save, _)) past = record {
     next = is-removed (record {
       some-row = λ e. omega (arith, save .no-end);
-      marked = ap (markOf (rowAt (rowsAt u))) (sym same) ∙ marked;
+      marked = cc;
       has-element = refl;
     });
     linking = inl (cas-links-none (rowsAt u) prev _ _);

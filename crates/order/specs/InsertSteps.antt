@@ -206,10 +206,10 @@ module _ (top me : ℕ) (rows : List Row) (sound : Structure top (rowAt rows)) (
 
       still-holding : {R' : Table} → OneWritten (rowAt rows) R' new stored → Holding me R' new (f .key) (f .element)
       still-holding put = record {
-        held = ap (λ (r : Row). r .standing) (put .here) ∙ holding .held;
-        has-key = ap (λ (r : Row). r .key) (put .here) ∙ holding .has-key;
-        has-element = ap (λ (r : Row). r .element) (put .here) ∙ holding .has-element;
-        back-zero = ap (λ (r : Row). r .backlink) (put .here) ∙ holding .back-zero;
+        held = cc;
+        has-key = cc;
+        has-element = cc;
+        back-zero = cc;
         unmarked = ap (λ (r : Row). r .succ .mark) (put .here);
         unflagged = ap (λ (r : Row). r .succ .flag) (put .here);
       }
@@ -259,7 +259,7 @@ module _ (top me : ℕ) (rows : List Row) (sound : Structure top (rowAt rows)) (
               (holding .back-zero) (omega (arith, low .low, new-rank)) (omega (arith, high .high, new-rank))
               (record {
                 first = put .first;
-                second = put .second ∙ ap (λ (r : Row). withSucc r (succOf new false false)) (unstored linked-row);
+                second = cc (put .second, unstored linked-row);
                 other = put .other;
               })
 

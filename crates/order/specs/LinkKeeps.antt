@@ -153,7 +153,7 @@ module _ {top w : ℕ} {R R' : Table} {prev new next : ℕ} (sound : Structure t
       before = flagged-before x h k
 
       far : rankOf top R' (rightOf R' (rightOf R' x)) ≡ rankOf top R (rightOf R (rightOf R x))
-      far = ap (rankOf top R') (before .past-right) ∙ rank= _
+      far = cc (before .past-right, rank= _)
 
       go : Dec (z ≡ new) → rankOf top R' (rightOf R' (rightOf R' x)) ≤ rankOf top R' z
       go (no f) =

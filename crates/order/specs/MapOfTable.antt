@@ -1,6 +1,6 @@
 -- When a plain map is the map of a table, and what a move of the table does to it.
 use Prim.Native.Nat.{ℕ}
-use mathlib.Core.Path.{_≡_, refl, ap, _∙_}
+use mathlib.Core.Path.{_≡_, refl}
 use mathlib.Core.Logic.{_≢_}
 use mathlib.Core.Option.{Option, none, some}
 use native.Mathlib.Decide.{ℕ-discrete}
@@ -38,7 +38,7 @@ map-has {R = R} {M = M} sound is k e h = go (M k) (is .entry k) refl
   where
     go : (o : Option ℕ) → Entry R k o → M k ≡ o → M k ≡ some e
     go none a q = absurd (has-not-lacks sound k e h a)
-    go (some e') a q = q ∙ ap some (has-one sound k e' e a h)
+    go (some e') a q = cc (has-one sound k e' e a h)
 
 pub map-lacks : {top : ℕ} {R : Table} {M : PlainMap} → Structure top R → IsMapOf R M → (k : ℕ) → Lacks R k → M k ≡ none
 map-lacks {R = R} {M = M} sound is k h = go (M k) (is .entry k) refl

@@ -77,7 +77,7 @@ module _ {top : ℕ} {R R' : Table} {prev del : ℕ} (sound : Structure top R) (
       bz = omega (arith, rank= x, rank= z)
 
       far : rankOf top R' (rightOf R' (rightOf R' x)) ≡ rankOf top R (rightOf R (rightOf R x))
-      far = ap (rankOf top R') (past-right= x) ∙ rank= _
+      far = cc (past-right= x, rank= _)
 
       go : MarkedAfter (rightOf R x) → rankOf top R' (rightOf R' (rightOf R' x)) ≤ rankOf top R' z
       go (was-marked e q) = omega (arith, far, rank= z, sound .gap-past-marked x z f q lz bz)

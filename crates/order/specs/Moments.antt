@@ -2,7 +2,7 @@
 -- plain map gives that answer. Between the table at which the answer was right and the next accepted step no row changes.
 use Prim.Native.Nat.{ℕ, zero, suc, _+_, _-_, _≤_, _<_}
 use mathlib.Core.Bool.{Bool, true, false}
-use mathlib.Core.Path.{_≡_, refl, ap, sym, _∙_}
+use mathlib.Core.Path.{_≡_, refl, ap, sym}
 use mathlib.Core.List.{List}
 use mathlib.Core.Option.{none, some}
 use native.Mathlib.Omega.{arith}
@@ -55,7 +55,7 @@ module _ {top : ℕ} {start : Catalogue} {calls : List Call} (ready : Ready top 
         until = s .until;
         worker = s .worker;
         step = s .step;
-        rows-same = s .rows-same ∙ same;
+        rows-same = cc;
       }
 
       go : Happening start calls T → StepFrom (suc T) f → StepFrom T f

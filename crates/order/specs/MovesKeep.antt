@@ -43,8 +43,8 @@ grown-refl l = record { linked = l; key = refl; element = refl; mark = λ h. h; 
 pub grown-trans : {r s t : Row} → Grown r s → Grown s t → Grown r t
 grown-trans g h = record {
   linked = h .linked;
-  key = h .key ∙ g .key;
-  element = h .element ∙ g .element;
+  key = cc;
+  element = cc;
   mark = λ q. h .mark (g .mark q);
   right = λ q. h .right (g .mark q) ∙ g .right q;
   back = λ q. h .back (g .mark q) ∙ g .back q;

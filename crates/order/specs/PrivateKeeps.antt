@@ -75,10 +75,10 @@ module _ {top w : ℕ} {R R' : Table} {new : ℕ} (sound : Structure top R) (mov
 
   -- the right neighbour of a linked row
   right-row= : (x : ℕ) → IsLinked R x → x ≢ 1 → R' (rightOf R' x) ≡ R (rightOf R x)
-  right-row= x l h = ap (λ (r : Row). R' (r .succ .right)) (linked-unchanged x l) ∙ linked-unchanged _ (sound .right-linked x l h)
+  right-row= x l h = cc (linked-unchanged x l, linked-unchanged _ (sound .right-linked x l h))
 
   right-rank= : (x : ℕ) → IsLinked R x → x ≢ 1 → rankOf top R' (rightOf R' x) ≡ rankOf top R (rightOf R x)
-  right-rank= x l h = ap (λ (r : Row). rankOf top R' (r .succ .right)) (linked-unchanged x l) ∙ rank= _ (sound .right-linked x l h)
+  right-rank= x l h = cc (linked-unchanged x l, rank= _ (sound .right-linked x l h))
 
   -- a row below another is not the tail, so its right neighbour is linked
   gap' : (x z : ℕ) → Regular R' x → Regular R' z → rankOf top R' x < rankOf top R' z → rankOf top R' (rightOf R' x) ≤ rankOf top R' z

@@ -1,11 +1,11 @@
 -- What holds of every reached state: the rows have the structure, each worker's facts hold, a held row is named by its holder, and the
 -- arrays have their sizes. The empty catalogue is the first such state.
 use Prim.Native.Nat.{ℕ, zero, suc, _≤_}
-use mathlib.Core.Path.{_≡_, refl, ap}
+use mathlib.Core.Path.{_≡_, refl, ap, sym, subst}
 use Rattle.order.specs.Table.{standingOf, tableOf}
 use Rattle.order.specs.Structure.{Structure}
 use Rattle.order.specs.EmptyTable.{emptyTable, empty-save, empty-structure}
-use Rattle.order.specs.Stack.{stackIn}
+use Rattle.order.specs.Stack.{stackOf, stackIn}
 use Rattle.order.specs.Facts.{AllHold, facts}
 use Rattle.kept.specs.Standing.{held-not-linked, free-not-held}
 use Rattle.kept.specs.Sized.{Sized, empty-sized}
@@ -16,6 +16,7 @@ use Rattle.model.specs.WellFormed.{heldRow}
 use Rattle.model.specs.declared.Answer.the-variants.{NoAnswer}
 use Rattle.model.specs.declared.Standing.the-variants.{Held}
 use Rattle.model.specs.declared.Row.{Row}
+use Rattle.model.specs.declared.Worker.{Worker}
 use Rattle.model.specs.declared.Catalogue.{Catalogue}
 
 pub record Sound (top : ℕ) (c : Catalogue) : Type 0 where
@@ -37,7 +38,7 @@ none-held (suc (suc x)) w h =
 pub empty-sound : (top : ℕ) → 1 ≤ top → Sound top emptyCatalogue
 empty-sound top positive = record {
   structure = empty-structure top positive;
-  known = λ w. rw (all-fresh w) tt;
+  known = λ w. subst (λ (k : Worker). AllHold top w emptyTable (facts (k .line) (stackOf k))) (sym (all-fresh w)) tt;
   named = λ w x h. absurd (none-held x w h);
   sizes = empty-sized;
 }

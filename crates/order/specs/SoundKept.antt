@@ -106,8 +106,8 @@ module _ (top : ℕ) (c c' : Catalogue) (sound : Sound top c) where
         )))
         (λ v e. sound .named v));
     sizes = record {
-      rows = ap length (s .rows-same) ∙ sound .sizes .rows;
-      workers = s .worker .size ∙ sound .sizes .workers;
+      rows = cc;
+      workers = cc;
       helps = each-worker (s .worker) (λ v k. EightHelps k) refl (λ v e. sound .sizes .helps v);
     };
   }
@@ -133,8 +133,8 @@ module _ (top : ℕ) (c c' : Catalogue) (sound : Sound top c) where
         (λ x h. ap heldRow (line-after k e) ∙ l .named x (sound .named w x) h)
         (λ v differ x h. sound .named v x (held-before (λ q. differ (sym q)) (l .move) x h)));
     sizes = record {
-      rows = ap length (s .rows-written) ∙ written-length (c .rows) (e .write) ∙ sound .sizes .rows;
-      workers = s .worker .size ∙ sound .sizes .workers;
+      rows = cc (s .rows-written, written-length (c .rows) (e .write), sound .sizes .rows);
+      workers = cc;
       helps = each-worker (s .worker) (λ v k. EightHelps k) (after-helps k e (sound .sizes .helps w)) (λ v differ. sound .sizes .helps v);
     };
   }

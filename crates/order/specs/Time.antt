@@ -2,7 +2,7 @@
 -- Past the last call nothing changes, so every number is a position.
 use Prim.Native.Nat.{ℕ, zero, suc, _≤_, _<_}
 use mathlib.Core.Bool.{true}
-use mathlib.Core.Path.{_≡_, refl, ap, sym, _∙_}
+use mathlib.Core.Path.{_≡_, refl, ap, sym, _∙_, subst}
 use mathlib.Core.List.{List, [], _∷_, _++_}
 use native.Mathlib.Omega.{arith}
 use native.Mathlib.Decide.{decLt}
@@ -92,10 +92,9 @@ module _ {top : ℕ} {start : Catalogue} {calls : List Call} (ready : Ready top 
   owned-at (suc i) = go (decLt i (length calls)) (owned-at i)
     where
       go : Dec (i < length calls) → Owned (stateAt start calls i) → Owned (stateAt start calls (suc i))
-      go (yes h) owned =
-          let x = getD calls i (Step 0) in
-          rw (state-after start calls i x h (any-default calls i _ _ h)) (event-keeps-owned (sound-at i) owned (event-at i x))
-      go (no h) owned = rw (state-past start calls i (omega arith)) owned
+      go (yes h) owned = subst Owned (sym (state-after start calls i (getD calls i (Step 0)) h (any-default calls i _ _ h)))
+          (event-keeps-owned (sound-at i) owned (event-at i (getD calls i (Step 0))))
+      go (no h) owned = subst Owned (sym (state-past start calls i (omega arith))) owned
 
   pub structure-at : (i : ℕ) → Structure top (TableAt i)
   structure-at i = sound-at i .structure
@@ -141,7 +140,7 @@ module _ {top : ℕ} {start : Catalogue} {calls : List Call} (ready : Ready top 
       accepts y h is v = record {
         inside = h;
         made = any-default calls i y (Step 0) h ∙ is;
-        accepted = rw is at v;
+        accepted = subst (λ (z : Call). call (stateAt start calls i) z .verdict ≡ Accepted) is v;
       }
 
       go : i < length calls → Event (stateAt start calls i) x (call (stateAt start calls i) x) → Happening start calls i
@@ -166,7 +165,8 @@ module _ {top : ℕ} {start : Catalogue} {calls : List Call} (ready : Ready top 
   pub step-move : (i w : ℕ) → StepTaken (stateAt start calls i) (stateAt start calls (suc i)) w
       → Move top w (TableAt i) (TableAt (suc i))
   step-move i w s =
-      rw (s .rows-written) (step-lawful top (stateAt start calls i) (stateAt start calls (suc i)) (sound-at i) w s .move)
+      subst (λ (rows : List Row). Move top w (TableAt i) (rowAt rows)) (sym (s .rows-written))
+      (step-lawful top (stateAt start calls i) (stateAt start calls (suc i)) (sound-at i) w s .move)
 
   pub moved : (i : ℕ) → Moved i
   moved i = go (happening i)

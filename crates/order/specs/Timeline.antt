@@ -61,7 +61,7 @@ module _ {top : ℕ} (R : ℕ → Table) (who : ℕ → ℕ) (sound : (t : ℕ) 
   pub grown-later : (t u x : ℕ) → t ≤ u → IsLinked (R t) x → Grown (R t x) (R u x)
   grown-later t u x h l =
       let e : t + (u - t) ≡ u = omega arith in
-      rw e at (grown-after t (u - t) x l)
+      subst (λ (s : ℕ). Grown (R t x) (R s x)) e (grown-after t (u - t) x l)
 
   pub rank-later : (t u x : ℕ) → t ≤ u → IsLinked (R t) x → rankOf top (R u) x ≡ rankOf top (R t) x
   rank-later t u x h l = ap (rank top x) (grown-later t u x h l .key)
@@ -77,7 +77,7 @@ module _ {top : ℕ} (R : ℕ → Table) (who : ℕ → ℕ) (sound : (t : ℕ) 
   marked-after : (t n x : ℕ) → markOf (R t) x ≡ false → markOf (R (t + n)) x ≡ true → MarkedWithin R t (t + n) x
   marked-after t zero x h k = absurd (clash (rw add-zero at k) h)
   marked-after t (suc n) x h k =
-      rw (add-suc t n) (go (bool-cases (markOf (R (t + n)) x)) (λ q. marked-after t n x h q))
+      subst (λ (u : ℕ). MarkedWithin R t u x) (sym (add-suc t n)) (go (bool-cases (markOf (R (t + n)) x)) (λ q. marked-after t n x h q))
     where
       k' : markOf (R (suc (t + n))) x ≡ true
       k' = rw add-suc at k
@@ -113,7 +113,7 @@ module _ {top : ℕ} (R : ℕ → Table) (who : ℕ → ℕ) (sound : (t : ℕ) 
   pub marked-within : (t u x : ℕ) → t ≤ u → markOf (R t) x ≡ false → markOf (R u) x ≡ true → MarkedWithin R t u x
   marked-within t u x h k q =
       let e : t + (u - t) ≡ u = omega arith in
-      rw e at (marked-after t (u - t) x k (rw e q))
+      subst (λ (s : ℕ). MarkedWithin R t s x) e (marked-after t (u - t) x k (subst (λ (s : ℕ). markOf (R s) x ≡ true) (sym e) q))
 
   -- A row of key k was marked since t: k is absent right after that.
   pub lacks-since-marked : (t u x k : ℕ) → t ≤ u → markOf (R t) x ≡ false → markOf (R u) x ≡ true → R u x .key ≡ k → LacksWithin R t u k

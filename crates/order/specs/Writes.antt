@@ -59,8 +59,8 @@ module _ {R R' : Table} {i : ℕ} {r : Row} {j : ℕ} {s : Row} (put : TwoWritte
   kept-both part e g x = go (ℕ-discrete x i) (ℕ-discrete x j)
     where
       go : Dec (x ≡ i) → Dec (x ≡ j) → part (R' x) ≡ part (R x)
-      go (yes q) t = ap (λ (y : ℕ). part (R' y)) q ∙ ap part (put .first) ∙ e ∙ ap (λ (y : ℕ). part (R y)) (sym q)
-      go (no q) (yes t) = ap (λ (y : ℕ). part (R' y)) t ∙ ap part (put .second) ∙ g ∙ ap (λ (y : ℕ). part (R y)) (sym t)
+      go (yes q) t = cc
+      go (no q) (yes t) = cc
       go (no q) (no t) = ap part (put .other x q t)
 
 -- HelpMarked's line 2, C&S succeeded
@@ -146,8 +146,8 @@ pub private-written : {w : ℕ} {R R' : Table} {new : ℕ} {r : Row} → (standi
 private-written {w} before after unflagged unmarked put = record {
   before = before;
   after = subst (λ (s : Row). (s .standing ≡ Free) ⊎ (s .standing ≡ Held w)) (sym (put .here)) after;
-  unflagged = ap (λ (r : Row). r .succ .flag) (put .here) ∙ unflagged;
-  unmarked = ap (λ (r : Row). r .succ .mark) (put .here) ∙ unmarked;
+  unflagged = cc;
+  unmarked = cc;
   other = put .other;
 }
 

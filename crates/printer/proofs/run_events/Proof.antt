@@ -8,12 +8,6 @@ use Rattle.schedule.specs.declared.run.Run.{Run}
 use borrow.Author.Needs.{needs}
 use Rattle.printer.proofs.run_events.Statement.{statement}
 use Rattle.printer.proofs.run_events.Tie as tie
-use Rattle.printer.proofs.run_events.Reads as reads
-use Rattle.printer.proofs.run_events.Lts as lts
-use Rattle.printer.proofs.show.Reads as show-reads
-use Rattle.schedule.proofs.last_line.Reads as last-line-reads
-use Rattle.schedule.proofs.run.Run.start.Reads as start-reads
-use Rattle.schedule.proofs.next_event.Reads as next-event-reads
 
 abbrev Inv-loop : tie.InvT-loop
 Inv-loop file run₀ run = Unit {0}
