@@ -1,5 +1,4 @@
 pub mod Walk
 pub mod Finish
 pub mod Result
-pub mod Leaves
 pub mod Coincide

@@ -6,11 +6,10 @@ use mathlib.Core.Bool.{true}
 use mathlib.Core.List.{List, [], _∷_, _++_, append-assoc, append-nil}
 use native.Mathlib.Numerals.{add-one}
 use native.Mathlib.Omega.{arith}
-use native.Mathlib.Decide.{decLt}
 use lib.ListN.{length, take, drop, getD, set, replicate, length-set, drop-of-length-le}
 use lib.Seq.{take-suc-set, drop-cons}
 use lib.Dec.{ltb}
-use borrow.Author.Tests.{lt-ltb, le-ltb}
+use borrow.Author.Tests.{lt-ltb}
 use Rattle.model.specs.State.{if_then_else_}
 use Rattle.schedule.specs.declared.text.Text.{Text}
 
@@ -43,10 +42,6 @@ pub record Shows (bytes : List ℕ) (t : Text) : Type 0 where
 pushed-room : (t : Text) (b : ℕ) → t .len + 1 ≤ 48 → pushed t b ≡ longer t b
 unfolding pushed
 pushed-room t b h = let room : ltb (t .len) 48 ≡ true = lt-ltb (t .len) 48 (omega arith) in simp room
-
-pushed-full : (t : Text) (b : ℕ) → 48 ≤ t .len → pushed t b ≡ t
-unfolding pushed
-pushed-full t b h = simp (le-ltb (t .len) 48 h)
 
 pub pushedAll-append : (t : Text) (a b : List ℕ) → pushedAll t (a ++ b) ≡ pushedAll (pushedAll t a) b
 unfolding pushedAll
@@ -90,20 +85,6 @@ text-shows bytes room = record { whole = refl; shows = pushedAll-room emptyText 
 pub empty-shows : {t : Text} → t ≡ emptyText → Shows [] t
 unfolding textOf pushedAll
 empty-shows empty = rw empty (text-shows [] (omega arith))
-
--- no line is longer than its array
-pushedAll-within : (t : Text) (bytes : List ℕ) → t .len ≤ 48 → pushedAll t bytes .len ≤ 48
-unfolding pushedAll
-pushedAll-within t [] h = h
-pushedAll-within t (b ∷ bytes) h = pushedAll-within (pushed t b) bytes (go (decLt (t .len) 48))
-  where
-    go : Dec (t .len < 48) → pushed t b .len ≤ 48
-    go (yes room) = rw (pushed-room t b (omega arith)) (omega arith)
-    go (no full) = rw (pushed-full t b (omega arith)) h
-
-pub shows-within : {bytes : List ℕ} {t : Text} → Shows bytes t → t .len ≤ 48
-unfolding textOf
-shows-within {bytes} s = rw (s .whole) (pushedAll-within emptyText bytes (omega arith))
 
 -- two lines that show the same are the same
 pub shows-same : {bytes : List ℕ} {t u : Text} → Shows bytes t → Shows bytes u → t ≡ u
