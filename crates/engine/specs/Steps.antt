@@ -39,17 +39,14 @@ module _ (c : Catalogue) (w : ℕ) (d : Worker) (inside : w < length (c .workers
   unfolding stepWorker
   step-idle i = simp (its, i)
 
-  module _ (e : Effect) (busy : idle (getD (c .workers) w d .line) ≡ false) (acts : e ≡ effectOf (c .rows) w (workerAt (c .workers) w)) where
-    acts-found : e ≡ effectOf (c .rows) w (getD (c .workers) w d)
-    acts-found = acts ∙ ap (effectOf (c .rows) w) its
-
+  module _ (e : Effect) (busy : idle (getD (c .workers) w d .line) ≡ false) (acts : e ≡ effectOf (c .rows) w (getD (c .workers) w d)) where
     pub step-ninth : ninthHelp (getD (c .workers) w d .count) (e .stack) ≡ true → refuse NinthHelp c ≡ stepWorker c w
     unfolding stepWorker applied
-    step-ninth n = simp (its, busy, ← acts-found, n)
+    step-ninth n = simp (its, busy, ← acts, n)
 
     pub step-moves : (rows : List Row) (after : Worker) → ninthHelp (getD (c .workers) w d .count) (e .stack) ≡ false → rows ≡ written (c .rows) (e .write) → after ≡ workerAfter (getD (c .workers) w d) e → accept (record { rows = rows; workers = set (c .workers) w after }) ≡ stepWorker c w
     unfolding stepWorker applied
-    step-moves rows after n r a = simp (its, busy, ← acts-found, n, r, a)
+    step-moves rows after n r a = simp (its, busy, ← acts, n, r, a)
 
 kept-either-way : (n : ℕ) (b : Bool) (x y : Stepped) → length (x .state .workers) ≡ n → length (y .state .workers) ≡ n → length ((if b then x else y) .state .workers) ≡ n
 kept-either-way n true x y p q = p

@@ -5,7 +5,7 @@ ghost use mathlib.Core.Path.{_≡_};
 ghost use mathlib.Core.Bool.{true, false};
 ghost use mathlib.Core.List.{List};
 ghost use lib.ListN.{length, set};
-ghost use Rattle.model.specs.State.{freshWorker, helpAt, idle, rowAt, workerAt};
+ghost use Rattle.model.specs.State.{freshWorker, helpAt, idle, rowAt};
 ghost use Rattle.model.specs.Insert.{isFree, lowestFree};
 ghost use Rattle.model.specs.declared.Row.{Row};
 ghost use Rattle.lines.specs.Rows.{firstRow, secondRow, takesRow};
@@ -185,30 +185,8 @@ fn effect_on(k: Worker, me: u8, first: Row, second: Row, free: u8) -> Effect
     act(first, second, free, me, k.count, last, line)
 }
 
-// What the line of worker `w` does: the rows that it reads are fetched, and the line acts on them.
-fn effect_of(state: Catalogue, w: u8) -> Effect
-    requires { ⌜ w < 8 ⌝ }
-    ensures { λ r. ⌜ r ≡ effectOf (state .rows) w (workerAt (state .workers) w) ⌝ }
-{
-    let j = w as usize;
-    let k = state.workers[j];
-    let line = k.line;
-    let i = first_row(line);
-    let i_slot = row_slot(i);
-    let i_found = state.rows[i_slot];
-    let first = row_or_free(i, i_found);
-    let n = second_row(line, first);
-    let n_slot = row_slot(n);
-    let n_found = state.rows[n_slot];
-    let second = row_or_free(n, n_found);
-    let mut free: u8 = 128;
-    if takes_row(line) {
-        free = lowest_free(state);
-    }
-    effect_on(k, w, first, second, free)
-}
-
-// A step of a worker of a state that is known to be well formed: its line's effect is stored in place.
+// A step of a worker of a state that is known to be well formed: the rows that its line reads are fetched, the line acts on them,
+// and its effect is stored in place.
 pub fn step_worker(state: Catalogue, w: u8) -> Stepped
     requires { ⌜ w < 8 ⌝ }
     ensures { λ r. ⌜ r ≡ stepWorker state w ⌝ }
@@ -223,7 +201,19 @@ pub fn step_worker(state: Catalogue, w: u8) -> Stepped
             state: after,
         };
     }
-    let effect = effect_of(after, w);
+    let i = first_row(line);
+    let i_slot = row_slot(i);
+    let i_found = after.rows[i_slot];
+    let first = row_or_free(i, i_found);
+    let n = second_row(line, first);
+    let n_slot = row_slot(n);
+    let n_found = after.rows[n_slot];
+    let second = row_or_free(n, n_found);
+    let mut free: u8 = 128;
+    if takes_row(line) {
+        free = lowest_free(after);
+    }
+    let effect = effect_on(k, w, first, second, free);
     let stack = effect.stack;
     if ninth_help(k.count, stack) {
         return Stepped {
