@@ -1,4 +1,4 @@
-// Whether two catalogues are the same, field by field: a line is told by its numbers.
+// Whether two records, and two catalogues, are the same in every field. A line and a row are told by their numbers.
 
 use model::Answer;
 use model::Catalogue;
@@ -7,202 +7,142 @@ use model::HelpCaller;
 use model::HelpLine;
 use model::InsertLine;
 use model::Line;
-use model::Pending;
 use model::Row;
 use model::SearchCaller;
 use model::SearchLine;
 use model::Standing;
 use model::Worker;
 
-struct Triple {
-    a: u32,
-    b: u32,
-    c: u32,
+// A case and the row numbers that it carries, as one number.
+fn packed(case: u8, a: u8, b: u8) -> u32 {
+    case as u32 * 65536 + a as u32 * 256 + b as u32
 }
 
-fn three(a: u32, b: u32, c: u32) -> Triple {
-    Triple { a, b, c }
+fn of_search_line(l: SearchLine) -> u32 {
+    match l {
+        SearchLine::SearchFrom1 => packed(1, 0, 0),
+        SearchLine::SearchFrom3NextMark { next } => packed(2, next, 0),
+        SearchLine::SearchFrom3CurrMark { next } => packed(3, next, 0),
+        SearchLine::SearchFrom3CurrRight { next } => packed(4, next, 0),
+        SearchLine::SearchFrom4 { next } => packed(5, next, 0),
+        SearchLine::SearchFrom5HelpMarked1 { next } => packed(6, next, 0),
+        SearchLine::SearchFrom5HelpMarked2 { next, right } => packed(7, next, right),
+        SearchLine::SearchFrom6 => packed(8, 0, 0),
+        SearchLine::SearchFrom9 => packed(9, 0, 0),
+    }
 }
 
-fn wide(x: u8) -> u32 {
-    x as u32
+fn of_search_caller(c: SearchCaller) -> u32 {
+    match c {
+        SearchCaller::Search1 => packed(1, 0, 0),
+        SearchCaller::Insert1 => packed(2, 0, 0),
+        SearchCaller::Insert19 { new } => packed(3, new, 0),
+        SearchCaller::Delete1 => packed(4, 0, 0),
+        SearchCaller::TryFlag11 { target } => packed(5, target, 0),
+    }
 }
 
-fn bit(b: bool) -> u32 {
-    if b { 1 } else { 0 }
+fn of_insert_line(l: InsertLine) -> u32 {
+    match l {
+        InsertLine::Insert4 { next } => packed(11, next, 0),
+        InsertLine::Insert6 { next, new } => packed(12, next, new),
+        InsertLine::Insert11 { next, new } => packed(13, next, new),
+        InsertLine::Insert17 { new } => packed(14, new, 0),
+        InsertLine::Insert18 { new } => packed(15, new, 0),
+    }
 }
 
-fn of_answer(a: Answer) -> Triple {
+fn of_flag_line(l: FlagLine) -> u32 {
+    match l {
+        FlagLine::TryFlag2 => packed(21, 0, 0),
+        FlagLine::TryFlag4 => packed(22, 0, 0),
+        FlagLine::TryFlag9 => packed(23, 0, 0),
+        FlagLine::TryFlag10 => packed(24, 0, 0),
+    }
+}
+
+fn of_help_line(l: HelpLine) -> u32 {
+    match l {
+        HelpLine::HelpFlagged1 => packed(31, 0, 0),
+        HelpLine::HelpFlagged2 => packed(32, 0, 0),
+        HelpLine::TryMark2 => packed(33, 0, 0),
+        HelpLine::TryMark3 { right } => packed(34, right, 0),
+        HelpLine::TryMark6 => packed(35, 0, 0),
+        HelpLine::HelpMarked1 => packed(36, 0, 0),
+        HelpLine::HelpMarked2 { right } => packed(37, right, 0),
+    }
+}
+
+fn of_help_caller(c: HelpCaller) -> u32 {
+    match c {
+        HelpCaller::Insert8 { prev, new } => packed(1, prev, new),
+        HelpCaller::Insert16 { prev, new } => packed(2, prev, new),
+        HelpCaller::Delete6 { target, result } => packed(3, target, if result { 1 } else { 0 }),
+    }
+}
+
+fn of_answer(a: Answer) -> [u32; 5] {
     match a {
-        Answer::NoAnswer => three(0, 0, 0),
-        Answer::Found(e) => three(1, e, 0),
-        Answer::Absent => three(2, 0, 0),
-        Answer::Added => three(3, 0, 0),
-        Answer::Duplicate => three(4, 0, 0),
-        Answer::Removed(e) => three(5, e, 0),
-        Answer::Full => three(6, 0, 0),
+        Answer::NoAnswer => [0, 0, 0, 0, 0],
+        Answer::Found(e) => [1, e, 0, 0, 0],
+        Answer::Absent => [2, 0, 0, 0, 0],
+        Answer::Added => [3, 0, 0, 0, 0],
+        Answer::Duplicate => [4, 0, 0, 0, 0],
+        Answer::Removed(e) => [5, e, 0, 0, 0],
+        Answer::Full => [6, 0, 0, 0, 0],
     }
 }
 
-fn of_search_line(l: SearchLine) -> Triple {
+// The line with its row numbers, the caller with its own, and the frame.
+fn numbers(line: u32, caller: u32, key: u32, element: u32, rows: u32) -> [u32; 5] {
+    [line, caller, key, element, rows]
+}
+
+fn of_line(l: Line) -> [u32; 5] {
     match l {
-        SearchLine::SearchFrom1 => three(1, 0, 0),
-        SearchLine::SearchFrom3NextMark { next } => three(2, wide(next), 0),
-        SearchLine::SearchFrom3CurrMark { next } => three(3, wide(next), 0),
-        SearchLine::SearchFrom3CurrRight { next } => three(4, wide(next), 0),
-        SearchLine::SearchFrom4 { next } => three(5, wide(next), 0),
-        SearchLine::SearchFrom5HelpMarked1 { next } => three(6, wide(next), 0),
-        SearchLine::SearchFrom5HelpMarked2 { next, right } => three(7, wide(next), wide(right)),
-        SearchLine::SearchFrom6 => three(8, 0, 0),
-        SearchLine::SearchFrom9 => three(9, 0, 0),
-    }
-}
-
-fn of_search_caller(c: SearchCaller) -> Triple {
-    match c {
-        SearchCaller::Search1 => three(1, 0, 0),
-        SearchCaller::Insert1 => three(2, 0, 0),
-        SearchCaller::Insert19 { new } => three(3, wide(new), 0),
-        SearchCaller::Delete1 => three(4, 0, 0),
-        SearchCaller::TryFlag11 { target } => three(5, wide(target), 0),
-    }
-}
-
-fn of_insert_line(l: InsertLine) -> Triple {
-    match l {
-        InsertLine::Insert4 { next } => three(1, wide(next), 0),
-        InsertLine::Insert6 { next, new } => three(2, wide(next), wide(new)),
-        InsertLine::Insert11 { next, new } => three(3, wide(next), wide(new)),
-        InsertLine::Insert17 { new } => three(4, wide(new), 0),
-        InsertLine::Insert18 { new } => three(5, wide(new), 0),
-    }
-}
-
-fn of_flag_line(l: FlagLine) -> Triple {
-    match l {
-        FlagLine::TryFlag2 => three(1, 0, 0),
-        FlagLine::TryFlag4 => three(2, 0, 0),
-        FlagLine::TryFlag9 => three(3, 0, 0),
-        FlagLine::TryFlag10 => three(4, 0, 0),
-    }
-}
-
-fn of_help_line(l: HelpLine) -> Triple {
-    match l {
-        HelpLine::HelpFlagged1 => three(1, 0, 0),
-        HelpLine::HelpFlagged2 => three(2, 0, 0),
-        HelpLine::TryMark2 => three(3, 0, 0),
-        HelpLine::TryMark3 { right } => three(4, wide(right), 0),
-        HelpLine::TryMark6 => three(5, 0, 0),
-        HelpLine::HelpMarked1 => three(6, 0, 0),
-        HelpLine::HelpMarked2 { right } => three(7, wide(right), 0),
-    }
-}
-
-fn of_help_caller(c: HelpCaller) -> Triple {
-    match c {
-        HelpCaller::Insert8 { prev, new } => three(1, wide(prev), wide(new)),
-        HelpCaller::Insert16 { prev, new } => three(2, wide(prev), wide(new)),
-        HelpCaller::Delete6 { target, result } => three(3, wide(target), bit(result)),
-    }
-}
-
-// The group, the line with its row numbers, the caller with its own, and the frame.
-fn of_line(l: Line) -> [u32; 11] {
-    match l {
-        Line::Idle(a) => {
-            let x = of_answer(a);
-            [0, x.a, x.b, x.c, 0, 0, 0, 0, 0, 0, 0]
-        }
+        Line::Idle(a) => of_answer(a),
         Line::Search(line, f) => {
-            let x = of_search_line(line);
             let caller = f.caller;
-            let y = of_search_caller(caller);
-            [
-                1,
-                x.a,
-                x.b,
-                x.c,
-                y.a,
-                y.b,
-                y.c,
+            numbers(
+                of_search_line(line),
+                of_search_caller(caller),
                 f.key,
                 f.element,
-                wide(f.curr),
-                0,
-            ]
+                packed(0, f.curr, 0),
+            )
         }
-        Line::Insert(line, f) => {
-            let x = of_insert_line(line);
-            [2, x.a, x.b, x.c, 0, 0, 0, f.key, f.element, wide(f.prev), 0]
-        }
-        Line::Flag(line, f) => {
-            let x = of_flag_line(line);
-            [
-                3,
-                x.a,
-                x.b,
-                x.c,
-                0,
-                0,
-                0,
-                f.key,
-                0,
-                wide(f.prev),
-                wide(f.target),
-            ]
-        }
+        Line::Insert(line, f) => numbers(
+            of_insert_line(line),
+            0,
+            f.key,
+            f.element,
+            packed(0, f.prev, 0),
+        ),
+        Line::Flag(line, f) => numbers(
+            of_flag_line(line),
+            0,
+            f.key,
+            0,
+            packed(0, f.prev, f.target),
+        ),
         Line::Help(line, f) => {
-            let x = of_help_line(line);
             let caller = f.caller;
-            let y = of_help_caller(caller);
-            [
-                4,
-                x.a,
-                x.b,
-                x.c,
-                y.a,
-                y.b,
-                y.c,
+            numbers(
+                of_help_line(line),
+                of_help_caller(caller),
                 f.key,
                 f.element,
-                wide(f.prev),
-                wide(f.del),
-            ]
+                packed(0, f.prev, f.del),
+            )
         }
     }
 }
 
-fn line(a: Line, b: Line) -> bool {
-    let x = of_line(a);
-    let y = of_line(b);
-    let mut i: usize = 0;
-    while i < 11 {
-        if x[i] != y[i] {
-            return false;
-        }
-        i += 1;
-    }
-    true
+fn equal(x: [u32; 5], y: [u32; 5]) -> bool {
+    x[0] == y[0] && x[1] == y[1] && x[2] == y[2] && x[3] == y[3] && x[4] == y[4]
 }
 
-fn helps(a: [Pending; 8], b: [Pending; 8]) -> bool {
-    let mut i: usize = 0;
-    while i < 8 {
-        let x = a[i];
-        let y = b[i];
-        if x.prev != y.prev {
-            return false;
-        }
-        if x.del != y.del {
-            return false;
-        }
-        i += 1;
-    }
-    true
-}
-
-fn worker(a: Worker, b: Worker) -> bool {
+pub fn worker(a: Worker, b: Worker) -> bool {
     let al = a.line;
     let bl = b.line;
     let ah = a.helps;
@@ -210,74 +150,34 @@ fn worker(a: Worker, b: Worker) -> bool {
     if a.count != b.count {
         return false;
     }
-    if line(al, bl) {
-        return helps(ah, bh);
-    }
-    false
-}
-
-fn of_standing(s: Standing) -> Triple {
-    match s {
-        Standing::Free => three(0, 0, 0),
-        Standing::Held(w) => three(1, wide(w), 0),
-        Standing::Linked => three(2, 0, 0),
-    }
-}
-
-fn of_row(r: Row) -> [u32; 8] {
-    let s = r.standing;
-    let x = of_standing(s);
-    [
-        r.key,
-        r.element,
-        wide(r.backlink),
-        wide(r.succ.right),
-        bit(r.succ.mark),
-        bit(r.succ.flag),
-        x.a,
-        x.b,
-    ]
-}
-
-fn row(a: Row, b: Row) -> bool {
-    let x = of_row(a);
-    let y = of_row(b);
     let mut i: usize = 0;
     while i < 8 {
-        if x[i] != y[i] {
+        let p = ah[i];
+        let q = bh[i];
+        if packed(0, p.prev, p.del) != packed(0, q.prev, q.del) {
             return false;
         }
         i += 1;
     }
-    true
+    equal(of_line(al), of_line(bl))
 }
 
-fn rows(a: [Row; 128], b: [Row; 128]) -> bool {
-    let mut i: usize = 0;
-    while i < 128 {
-        let x = a[i];
-        let y = b[i];
-        if row(x, y) {
-            i += 1;
-        } else {
-            return false;
-        }
-    }
-    true
-}
-
-fn workers(a: [Worker; 8], b: [Worker; 8]) -> bool {
-    let mut i: usize = 0;
-    while i < 8 {
-        let x = a[i];
-        let y = b[i];
-        if worker(x, y) {
-            i += 1;
-        } else {
-            return false;
-        }
-    }
-    true
+fn of_row(r: Row) -> [u32; 5] {
+    let standing = r.standing;
+    let s = match standing {
+        Standing::Free => packed(0, 0, 0),
+        Standing::Held(w) => packed(1, w, 0),
+        Standing::Linked => packed(2, 0, 0),
+    };
+    let mark = if r.succ.mark { 1 } else { 0 };
+    let flag = if r.succ.flag { 1 } else { 0 };
+    [
+        r.key,
+        r.element,
+        packed(0, r.backlink, r.succ.right),
+        packed(0, mark, flag),
+        s,
+    ]
 }
 
 pub fn catalogue(a: Catalogue, b: Catalogue) -> bool {
@@ -285,8 +185,25 @@ pub fn catalogue(a: Catalogue, b: Catalogue) -> bool {
     let br = b.rows;
     let aw = a.workers;
     let bw = b.workers;
-    if rows(ar, br) {
-        return workers(aw, bw);
+    let mut i: usize = 0;
+    while i < 128 {
+        let x = ar[i];
+        let y = br[i];
+        if equal(of_row(x), of_row(y)) {
+            i += 1;
+        } else {
+            return false;
+        }
     }
-    false
+    let mut j: usize = 0;
+    while j < 8 {
+        let p = aw[j];
+        let q = bw[j];
+        if worker(p, q) {
+            j += 1;
+        } else {
+            return false;
+        }
+    }
+    true
 }

@@ -15,52 +15,46 @@ pub fn field(name: &[u8], value: u32) {
     io::print_decimal(STDOUT_FILENO, value as u64);
 }
 
-pub fn end() {
-    text(b"\n");
-}
-
-fn refusal(r: Refusal) -> u32 {
-    match r {
-        Refusal::NoSuchWorker => 1,
-        Refusal::WorkerBusy => 2,
-        Refusal::WorkerIdle => 3,
-        Refusal::NotWellFormed => 4,
-        Refusal::NinthHelp => 5,
-        Refusal::NoSuchRequest => 6,
-        Refusal::FileVersion => 7,
-        Refusal::FileLength => 8,
-        Refusal::FileRecord => 9,
-        Refusal::FileTooLong => 10,
-        Refusal::BudgetTooLarge => 11,
-    }
-}
-
-// The refusal's number, 0 if there is none.
-pub fn number(v: Verdict) -> u32 {
+// `accepted`, or `r` and the refusal's number.
+pub fn verdict(v: Verdict) {
     match v {
-        Verdict::Accepted => 0,
-        Verdict::Refused(r) => refusal(r),
+        Verdict::Accepted => text(b"accepted"),
+        Verdict::Refused(r) => {
+            let n = match r {
+                Refusal::NoSuchWorker => 1,
+                Refusal::WorkerBusy => 2,
+                Refusal::WorkerIdle => 3,
+                Refusal::NotWellFormed => 4,
+                Refusal::NinthHelp => 5,
+                Refusal::NoSuchRequest => 6,
+                Refusal::FileVersion => 7,
+                Refusal::FileLength => 8,
+                Refusal::FileRecord => 9,
+                Refusal::FileTooLong => 10,
+                Refusal::BudgetTooLarge => 11,
+            };
+            field(b"r", n)
+        }
     }
 }
 
 fn answer(a: Answer) {
     match a {
-        Answer::NoAnswer => text(b" no answer"),
-        Answer::Found(e) => field(b" Found ", e),
-        Answer::Absent => text(b" Absent"),
-        Answer::Added => text(b" Added"),
-        Answer::Duplicate => text(b" Duplicate"),
-        Answer::Removed(e) => field(b" Removed ", e),
-        Answer::Full => text(b" Full"),
+        Answer::NoAnswer => text(b", no answer"),
+        Answer::Found(e) => field(b", Found ", e),
+        Answer::Absent => text(b", Absent"),
+        Answer::Added => text(b", Added"),
+        Answer::Duplicate => text(b", Duplicate"),
+        Answer::Removed(e) => field(b", Removed ", e),
+        Answer::Full => text(b", Full"),
     }
 }
 
+// The last answer of an idle worker, or that it is busy.
 pub fn line(l: Line) {
-    match l {
-        Line::Idle(a) => answer(a),
-        Line::Search(_, _) => text(b" in SearchFrom"),
-        Line::Insert(_, _) => text(b" in Insert"),
-        Line::Flag(_, _) => text(b" in TryFlag"),
-        Line::Help(_, _) => text(b" in HelpFlagged"),
+    if let Line::Idle(a) = l {
+        answer(a);
+    } else {
+        text(b", busy");
     }
 }
