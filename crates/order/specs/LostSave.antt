@@ -136,4 +136,4 @@ module _ (more : List Call) (harmless : DeletesNone 20 more) where
   pub save-kept-undeleted : (q v x h : ℕ) (a : Answer) → Request emptyCatalogue (p8 ++ more) q v 1 20 x → length p8 ≤ q
       → Finished emptyCatalogue (p8 ++ more) q v h a → a ≡ Found 200
   save-kept-undeleted q v x h a asked later finished =
-      save-kept more q v x h a asked later finished (λ d w y i r sets low high. none-deletes d w y r)
+      save-kept more q v x h a asked later finished (λ d w y t r sets busy low high. none-deletes d w y r)

@@ -155,7 +155,7 @@ module _ {top : ℕ} {start : Catalogue} {calls : List Call} (ready : Ready top 
 
   -- ---- A removal that is unfinished at the end ----
 
-  set-flag : {s w u y : ℕ} → Claimed ready s w u y → SetFlag start calls s w y
+  abbrev pub set-flag : {s w u y : ℕ} → Claimed ready s w u y → SetFlag start calls s w y
   set-flag c = record {
     at = c .at;
     prev = c .prev;

@@ -4,7 +4,7 @@
 -- finish, at any step, or afterwards with no flag set. For the add links its row at its finish, and a row of key k that was flagged before
 -- is marked by then: else the add would have been answered Duplicate.
 use Prim.Native.Nat.{ℕ, zero, suc, _≤_, _<_}
-use mathlib.Core.Bool.{true, false}
+use mathlib.Core.Bool.{false}
 use mathlib.Core.Path.{_≡_, refl, ap, sym, _∙_}
 use mathlib.Core.Logic.{_≢_, inl, inr}
 use mathlib.Core.List.{List}
@@ -19,7 +19,7 @@ use Rattle.order.specs.Lawful.{noRowRemoved}
 use Rattle.order.specs.MapOfTable.{map-has, map-lacks, setting-other}
 use Rattle.order.specs.Asking.{Agrees, added-holds}
 use Rattle.order.specs.Memory.{Answered, is-found, is-absent}
-use Rattle.order.specs.Demand.{stateAt, Accepts, Request, BusySince, Finished}
+use Rattle.order.specs.Demand.{Accepts, Request, BusySince, SetFlag, Finished}
 use Rattle.order.specs.Time.{Ready, structure-at, mover-at, move-at, TableAt}
 use Rattle.order.specs.OneRequest.{idle-not-busy, same-stepper}
 use Rattle.order.specs.Running.{removedAt, Claimed, Running}
@@ -27,12 +27,11 @@ use Rattle.order.specs.Courses.{ended, ran}
 use Rattle.order.specs.MapAt.{mapAt, is-map-at}
 use Rattle.order.specs.MapChanges.{adds, removes, add-agrees, removal-agrees}
 use Rattle.order.specs.Causes.{Cause, same-map, changed-by, cause}
-use Rattle.order.specs.Removals.{removes-save, Deletes, deletes}
+use Rattle.order.specs.Removals.{removes-save, Deletes, deletes, set-flag}
 use Rattle.order.specs.Compared.{Compared, less, equal, more, compared}
 use Rattle.order.specs.Reached.{empty-ready}
 use Rattle.kept.specs.Conditions.{contradiction}
 use Rattle.model.specs.State.{emptyCatalogue}
-use Rattle.model.specs.Cas.{succAt}
 use Rattle.model.specs.declared.Catalogue.{Catalogue}
 use Rattle.model.specs.declared.Answer.{Answer}
 use Rattle.model.specs.declared.Answer.the-variants.{Found, Absent, Added, Removed}
@@ -42,18 +41,10 @@ use Rattle.model.specs.declared.Call.the-variants.{Step}
 -- ---- Deletes that leave a save alone ----
 
 module _ (start : Catalogue) (calls : List Call) where
-  -- The request that worker v submitted at d sets a flag by the step at position i.
-  pub record SetsFlag (d v i : ℕ) : Type 0 where
-    pub later : d < i
-    pub busy : BusySince start calls d v i
-    pub step : Accepts start calls i (Step v)
-    pub prev : ℕ
-    pub before : succAt (stateAt start calls i .rows) prev .flag ≡ false
-    pub after : succAt (stateAt start calls (suc i) .rows) prev .flag ≡ true
-
-  -- No delete of key k sets a flag between the positions f and h.
+  -- No delete of key k sets its flag between the positions f and h.
   abbrev pub NoDeleteFlags : ℕ → ℕ → ℕ → Type 0
-  NoDeleteFlags k f h = (d v x i : ℕ) → Request start calls d v 3 k x → SetsFlag d v i → f < i → i < h → ⊥
+  NoDeleteFlags k f h = (d v x t : ℕ) → Request start calls d v 3 k x → (s : SetFlag start calls d v t) → BusySince start calls d v (s .at)
+      → f < s .at → s .at < h → ⊥
 
   -- Three ways to take no step at all between f and h: the request finished before; it stands still, as one whose client was killed; it is
   -- submitted later.
@@ -63,12 +54,12 @@ module _ (start : Catalogue) (calls : List Call) where
     not-yet : h ≤ d → Rests f h d v
 
   pub rest-flags-none : (k f h : ℕ) → ((d v x : ℕ) → Request start calls d v 3 k x → Rests f h d v) → NoDeleteFlags k f h
-  rest-flags-none k f h rests d v x i request sets low high = go (rests d v x request)
+  rest-flags-none k f h rests d v x t request sets busy low high = go (rests d v x request)
     where
       go : Rests f h d v → ⊥
       go (over g a early ended) =
-          idle-not-busy (ended .answered) (sets .busy (suc g) (omega (arith, ended .later)) (omega arith))
-      go (stalled still) = still i low high (sets .step)
+          idle-not-busy (ended .answered) (busy (suc g) (omega (arith, ended .later)) (omega arith))
+      go (stalled still) = still (sets .at) low high (sets .step)
       go (not-yet after) = omega (arith, sets .later)
 
 -- ---- One key of a plain map ----
@@ -121,15 +112,7 @@ module _ {top : ℕ} {start : Catalogue} {calls : List Call} (ready : Ready top 
           let same = same-stepper f v w (rw q at (c .step)) (finished .step) in
           absurd (idle-not-busy (finished .answered) (rw same at (busy (suc f) (omega (arith, c .later)) later)))
       go (more q) =
-          absurd (no-flags r v x (c .at) asked
-          (record {
-            later = c .later;
-            busy = λ j low high. busy j low (omega (arith, c .before));
-            step = c .step;
-            prev = c .prev;
-            before = c .flag .prev-unflagged;
-            after = c .flag .flag-prev;
-          })
+          absurd (no-flags r v x y asked (set-flag ready c) (λ j low high. busy j low (omega (arith, c .before)))
           q (omega (arith, c .before)))
 
   -- and the row would have been there when the add was answered Added.

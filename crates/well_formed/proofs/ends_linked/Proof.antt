@@ -1,5 +1,5 @@
 -- `ends_linked` meets its contract: the test of the row number is the definition's.
-use Rattle.accesses.specs.Tests.{tests}
+use Rattle.accesses.specs.Comparisons.{tests}
 use Rattle.well_formed.proofs.ends_linked.Statement.{statement}
 use Rattle.well_formed.proofs.ends_linked.Tie as tie
 

@@ -1,7 +1,7 @@
 -- `holder` meets its contract: each way of its test gives that way's number, which is below 8.
 use borrow.Author.Needs.{needs}
 use native.Mathlib.Omega.{arith}
-use Rattle.accesses.specs.Tests.{tests}
+use Rattle.accesses.specs.Comparisons.{tests}
 use Rattle.well_formed.proofs.holder.Statement.{statement}
 use Rattle.well_formed.proofs.holder.Tie as tie
 

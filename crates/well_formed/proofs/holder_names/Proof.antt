@@ -1,7 +1,7 @@
 -- `holder_names` meets its contract: in the one case that tests, the line given is the holder's.
 use borrow.Author.Needs.{needs}
 use Rattle.model.specs.WellFormed.{holderNames}
-use Rattle.accesses.specs.Tests.{tests}
+use Rattle.accesses.specs.Comparisons.{tests}
 use Rattle.well_formed.proofs.holder_names.Statement.{statement}
 use Rattle.well_formed.proofs.holder_names.Tie as tie
 

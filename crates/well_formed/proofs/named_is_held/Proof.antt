@@ -1,6 +1,6 @@
 -- `named_is_held` meets its contract: the row given is the one that the line names.
 use Rattle.model.specs.WellFormed.{namedIsHeld}
-use Rattle.accesses.specs.Tests.{tests}
+use Rattle.accesses.specs.Comparisons.{tests}
 use Rattle.well_formed.proofs.named_is_held.Statement.{statement}
 use Rattle.well_formed.proofs.named_is_held.Tie as tie
 

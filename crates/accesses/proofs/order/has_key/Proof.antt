@@ -1,6 +1,6 @@
 -- `has_key` meets its contract: the tail, the head and the key are tested in the definition's order.
 use Rattle.model.specs.Order.{hasKey}
-use Rattle.accesses.specs.Tests.{tests}
+use Rattle.accesses.specs.Comparisons.{tests}
 use Rattle.accesses.proofs.order.has_key.Statement.{statement}
 use Rattle.accesses.proofs.order.has_key.Tie as tie
 

@@ -1,6 +1,6 @@
 -- `key_below` meets its contract: the tail, the head and the key are tested in the definition's order.
 use Rattle.model.specs.Order.{keyBelow}
-use Rattle.accesses.specs.Tests.{tests}
+use Rattle.accesses.specs.Comparisons.{tests}
 use Rattle.accesses.proofs.order.key_below.Statement.{statement}
 use Rattle.accesses.proofs.order.key_below.Tie as tie
 

@@ -3,7 +3,7 @@
 use mathlib.Core.Path.{_∙_, sym}
 use native.Mathlib.Omega.{arith}
 use lib.Seq.{set-out}
-use Rattle.accesses.specs.Tests.{tests}
+use Rattle.accesses.specs.Comparisons.{tests}
 use Rattle.accesses.specs.Slots.{set-found}
 use Rattle.accesses.proofs.slots.row_after.Statement.{statement}
 use Rattle.accesses.proofs.slots.row_after.Tie as tie

@@ -3,7 +3,7 @@ use mathlib.Core.Path.{_∙_, sym}
 use native.Mathlib.Omega.{arith}
 use lib.ListN.{List·getD-eq-default}
 use Rattle.model.specs.State.{freeRow}
-use Rattle.accesses.specs.Tests.{tests}
+use Rattle.accesses.specs.Comparisons.{tests}
 use Rattle.accesses.proofs.slots.row_or_free.Statement.{statement}
 use Rattle.accesses.proofs.slots.row_or_free.Tie as tie
 

@@ -1,6 +1,6 @@
 -- `row_slot` meets its contract: each way of its test gives that way's number, which is below 128.
 use native.Mathlib.Omega.{arith}
-use Rattle.accesses.specs.Tests.{tests}
+use Rattle.accesses.specs.Comparisons.{tests}
 use Rattle.accesses.proofs.slots.row_slot.Statement.{statement}
 use Rattle.accesses.proofs.slots.row_slot.Tie as tie
 

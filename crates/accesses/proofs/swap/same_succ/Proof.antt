@@ -1,6 +1,6 @@
 -- `same_succ` meets its contract: the right row, the mark and the flag are compared in the definition's order.
 use Rattle.model.specs.Cas.{sameSucc}
-use Rattle.accesses.specs.Tests.{tests}
+use Rattle.accesses.specs.Comparisons.{tests}
 use Rattle.accesses.proofs.swap.same_succ.Statement.{statement}
 use Rattle.accesses.proofs.swap.same_succ.Tie as tie
 

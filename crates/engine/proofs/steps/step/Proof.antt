@@ -1,7 +1,7 @@
 -- `step` meets its contract: the refusals come in the definition's order, and what is left is `step_worker`.
 use borrow.Author.Needs.{needs}
 use Rattle.model.specs.Step.{step}
-use Rattle.accesses.specs.Tests.{tests}
+use Rattle.accesses.specs.Comparisons.{tests}
 use Rattle.engine.proofs.steps.step.Statement.{statement}
 use Rattle.engine.proofs.steps.step.Tie as tie
 

@@ -5,7 +5,7 @@ use mathlib.Core.Path.{_∙_, sym}
 use native.Mathlib.Omega.{arith}
 use lib.ListN.{length-map}
 use Rattle.model.specs.Step.{submit}
-use Rattle.accesses.specs.Tests.{tests}
+use Rattle.accesses.specs.Comparisons.{tests}
 use Rattle.engine.specs.Steps.{idle-found}
 use Rattle.engine.proofs.steps.submit.Statement.{statement}
 use Rattle.engine.proofs.steps.submit.Tie as tie

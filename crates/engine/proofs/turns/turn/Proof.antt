@@ -1,7 +1,7 @@
 -- `turn` meets its contract: the refusals come in the definition's order, and what is left is the loop of `turn_from`.
 use borrow.Author.Needs.{needs}
 use Rattle.model.specs.Turn.{turn, turnOf}
-use Rattle.accesses.specs.Tests.{tests}
+use Rattle.accesses.specs.Comparisons.{tests}
 use Rattle.engine.proofs.turns.turn.Statement.{statement}
 use Rattle.engine.proofs.turns.turn.Tie as tie
 

@@ -1,6 +1,6 @@
 -- `help_flagged_4_help_marked_2` meets its contract: the write is HelpMarked's, and each way of the count returns where the definition returns.
 use Rattle.model.specs.HelpFlagged.{helpFlagged-4-helpMarked-2}
-use Rattle.accesses.specs.Tests.{tests}
+use Rattle.accesses.specs.Comparisons.{tests}
 use Rattle.lines.proofs.help_flagged.help_flagged_4_help_marked_2.Statement.{statement}
 use Rattle.lines.proofs.help_flagged.help_flagged_4_help_marked_2.Tie as tie
 

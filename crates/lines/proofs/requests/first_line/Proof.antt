@@ -1,6 +1,6 @@
 -- `first_line` meets its contract: the codes are tested in the definition's order.
 use Rattle.model.specs.Step.{firstLine}
-use Rattle.accesses.specs.Tests.{tests}
+use Rattle.accesses.specs.Comparisons.{tests}
 use Rattle.lines.proofs.requests.first_line.Statement.{statement}
 use Rattle.lines.proofs.requests.first_line.Tie as tie
 

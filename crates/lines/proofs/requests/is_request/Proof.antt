@@ -1,5 +1,5 @@
 -- `is_request` meets its contract: the tests come in the definition's order.
-use Rattle.accesses.specs.Tests.{tests}
+use Rattle.accesses.specs.Comparisons.{tests}
 use Rattle.lines.proofs.requests.is_request.Statement.{statement}
 use Rattle.lines.proofs.requests.is_request.Tie as tie
 

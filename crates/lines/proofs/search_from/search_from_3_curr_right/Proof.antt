@@ -1,7 +1,7 @@
 -- `search_from_3_curr_right` meets its contract: the right is that of the row at curr, and each way goes where the definition goes.
 use Rattle.model.specs.SearchFrom.{searchFrom-3-curr-right}
 use Rattle.model.specs.Cas.{succAt}
-use Rattle.accesses.specs.Tests.{tests}
+use Rattle.accesses.specs.Comparisons.{tests}
 use Rattle.lines.proofs.search_from.search_from_3_curr_right.Statement.{statement}
 use Rattle.lines.proofs.search_from.search_from_3_curr_right.Tie as tie
 

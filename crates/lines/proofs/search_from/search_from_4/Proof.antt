@@ -1,7 +1,7 @@
 -- `search_from_4` meets its contract: the right is that of the row at curr, and each way goes where the definition goes.
 use Rattle.model.specs.SearchFrom.{searchFrom-4}
 use Rattle.model.specs.Cas.{succAt}
-use Rattle.accesses.specs.Tests.{tests}
+use Rattle.accesses.specs.Comparisons.{tests}
 use Rattle.lines.proofs.search_from.search_from_4.Statement.{statement}
 use Rattle.lines.proofs.search_from.search_from_4.Tie as tie
 

@@ -1,15 +1,13 @@
 -- `check` makes the tests of `fileVerdict` in their order: at each return those before it have failed.
 use borrow.Author.Needs.{needs}
-use borrow.Author.Tests.{lt-ltb, le-ltb, eq-eqb, ne-eqb}
+use borrow.Author.Tests.{lt-ltb, le-ltb, eq-eqb}
 use mathlib.Core.Path.{sym, _∙_}
 use lib.ListN.{length-drop}
+use Rattle.accesses.specs.Comparisons.{tests}
 use Rattle.model.specs.Schedule.{fileVerdict}
 use Rattle.schedule.specs.Records.{fitsFrom}
 use Rattle.schedule.proofs.file.check.Statement.{statement}
 use Rattle.schedule.proofs.file.check.Tie as tie
-
--- what a test of the code says of the same test in the definition
-ruleset tests = (lt-ltb, le-ltb, eq-eqb, ne-eqb)
 
 pub check-spec : {M : Type 1} → statement M
 unfolding fileVerdict fitsFrom

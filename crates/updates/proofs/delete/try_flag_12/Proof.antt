@@ -1,6 +1,6 @@
 -- `try_flag_12` meets its contract: the test is the definition's, and each way goes where it goes.
 use Rattle.model.specs.Delete.{tryFlag-12}
-use Rattle.accesses.specs.Tests.{tests}
+use Rattle.accesses.specs.Comparisons.{tests}
 use Rattle.updates.proofs.delete.try_flag_12.Statement.{statement}
 use Rattle.updates.proofs.delete.try_flag_12.Tie as tie
 

@@ -1,6 +1,6 @@
 -- `insert_4` meets its contract: the row given is the lowest free one, and each way of its test does what the definition does.
 use Rattle.model.specs.Insert.{insert-4}
-use Rattle.accesses.specs.Tests.{tests}
+use Rattle.accesses.specs.Comparisons.{tests}
 use Rattle.updates.proofs.insert.insert_4.Statement.{statement}
 use Rattle.updates.proofs.insert.insert_4.Tie as tie
 
