@@ -1,22 +1,28 @@
 // Submit and step: the refusals in document 01's order, and what an accepted call does.
 
-ghost use Prim.Native.Nat.{_-_, _<_};
+ghost use Prim.Native.Nat.{_<_};
 ghost use mathlib.Core.Path.{_≡_};
 ghost use mathlib.Core.Bool.{true, false};
 ghost use mathlib.Core.List.{List};
-ghost use lib.ListN.{length, set};
-ghost use Rattle.model.specs.State.{freshWorker, helpAt, idle, rowAt};
+ghost use lib.ListN.{length};
+ghost use Rattle.model.specs.State.{rowAt};
 ghost use Rattle.model.specs.Insert.{isFree, lowestFree};
 ghost use Rattle.model.specs.declared.Row.{Row};
 ghost use Rattle.lines.specs.Rows.{firstRow, secondRow, takesRow};
 ghost use Rattle.model.specs.Step.{effectOf, stacked, workerAfter, ninthHelp, stepWorker, step, submit};
+use accesses::first_line;
+use accesses::fresh_worker;
+use accesses::help_at;
+use accesses::is_idle;
+use accesses::is_request;
+use accesses::ninth_help;
+use accesses::one_less;
 use accesses::row_after;
 use accesses::row_or_free;
 use accesses::row_slot;
+use accesses::with_help;
 use lines::act;
-use lines::first_line;
 use lines::first_row;
-use lines::is_request;
 use lines::second_row;
 use lines::takes_row;
 use model::Catalogue;
@@ -60,64 +66,7 @@ fn lowest_free(state: Catalogue) -> u8
     i
 }
 
-pub fn is_idle(line: Line) -> bool
-    ensures { λ r. ⌜ r ≡ idle line ⌝ }
-{
-    match line {
-        Line::Idle(_) => true,
-        Line::Search(_, _) => false,
-        Line::Insert(_, _) => false,
-        Line::Flag(_, _) => false,
-        Line::Help(_, _) => false,
-    }
-}
-
-// ---- The pending helps ----
-
-fn one_less(n: u8) -> u8
-    ensures { λ r. ⌜ r ≡ n - 1 ⌝ }
-{
-    if n == 0 {
-        return 0;
-    }
-    n - 1
-}
-
-fn help_at(helps: [Pending; Catalogue::HELPS], i: u8) -> Pending
-    ensures { λ r. ⌜ r ≡ helpAt helps i ⌝ }
-{
-    let j = i as usize;
-    if j < Catalogue::HELPS {
-        return helps[j];
-    }
-    Pending { prev: 0, del: 0 }
-}
-
-fn with_help(
-    helps: [Pending; Catalogue::HELPS],
-    i: u8,
-    help: Pending,
-) -> [Pending; Catalogue::HELPS]
-    ensures { λ r. ⌜ r ≡ set helps i help ⌝ }
-{
-    let mut after = helps;
-    let j = i as usize;
-    if j < Catalogue::HELPS {
-        after[j] = help;
-        return after;
-    }
-    helps
-}
-
-fn ninth_help(count: u8, stack: Stack) -> bool
-    ensures { λ r. ⌜ r ≡ ninthHelp count stack ⌝ }
-{
-    match stack {
-        Stack::Keep => false,
-        Stack::Push(_) => 8 <= count,
-        Stack::Pop => false,
-    }
-}
+// ---- The worker after a line ----
 
 // The slot of a popped help becomes zero.
 fn stacked(k: Worker, line: Line, stack: Stack) -> Worker
@@ -145,18 +94,6 @@ fn stacked(k: Worker, line: Line, stack: Stack) -> Worker
                 count: less,
             }
         }
-    }
-}
-
-// A worker at a line, all other registers zero.
-fn fresh_worker(line: Line) -> Worker
-    ensures { λ r. ⌜ r ≡ freshWorker line ⌝ }
-{
-    let none = Pending { prev: 0, del: 0 };
-    Worker {
-        line: line,
-        helps: [none; Catalogue::HELPS],
-        count: 0,
     }
 }
 

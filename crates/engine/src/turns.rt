@@ -4,8 +4,8 @@
 ghost use Prim.Native.Nat.{_<_};
 ghost use mathlib.Core.Path.{_≡_};
 ghost use Rattle.model.specs.Turn.{accepted, turnFrom, turn};
-use crate::steps::is_idle;
 use crate::steps::step_worker;
+use accesses::is_idle;
 use model::Catalogue;
 use model::Refusal;
 use model::Turned;

@@ -1,5 +1,5 @@
 // The lines of the two requests that change the list: Insert, and Delete with its TryFlag. One published line is one function on the
-// rows that it reads; `lines` calls them where SearchFrom and HelpFlagged return, and chooses the line.
+// rows that it reads; `searches` and `helps` call them where SearchFrom and HelpFlagged return, and `lines` chooses the line.
 //
 // A contract speaks of every list of rows in which the given rows stand where the line looks for them, and cites the line's definition
 // on that list.
