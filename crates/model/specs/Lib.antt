@@ -1,3 +1,4 @@
+-- The definitions: records and numbers, the published lines, the calls, the schedule file
 pub mod State
 pub mod Numbers
 pub mod Order
@@ -15,18 +16,20 @@ pub mod Count
 pub mod Run
 pub mod Schedule
 pub mod Printed
+-- Tables, proved by computing: the empty catalogue, worked schedules, states made by hand, counts, files
 pub mod Empty
 pub mod Computed
 pub mod Worked
-pub mod CountTable
 pub mod HandMade
+pub mod CountTable
 pub mod Example
+-- Laws of every call, for any state and any numbers
 pub mod Choices
 pub mod Refusals
-pub mod Answers
-pub mod TurnCount
 pub mod RefusalOrder
 pub mod RefusedCalls
 pub mod RefusedTurns
 pub mod RefusedFiles
+pub mod Answers
+pub mod TurnCount
 pub mod OneOutcome

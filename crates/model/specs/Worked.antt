@@ -15,11 +15,12 @@ use Rattle.model.specs.State.{rowAt, workerAt, idle, emptyCatalogue}
 use Rattle.model.specs.Order.{head}
 use Rattle.model.specs.Numbers.{refusalNumber}
 use Rattle.model.specs.Count.{walk, isSave, savesAmong, saves, countable, count, takenFrom, taken}
-use Rattle.model.specs.Computed.{computed}
+use Rattle.model.specs.Computed.{computed, computedTurn}
 use Rattle.model.specs.WellFormed.{allFrom}
 use Rattle.model.specs.declared.Row.{Row}
 use Rattle.model.specs.declared.Catalogue.{Catalogue}
 use Rattle.model.specs.declared.Stepped.{Stepped}
+use Rattle.model.specs.declared.Turned.{Turned}
 use Rattle.model.specs.declared.Call.the-variants.{Submit, Step}
 use Rattle.model.specs.declared.Answer.{Answer}
 use Rattle.model.specs.declared.Verdict.{Verdict}
@@ -50,6 +51,11 @@ pub data Phase : Type 0 where
   takes : ℕ → ℕ → Phase
   -- steps until the request is finished: a hundred are enough for every schedule here
   finishes : ℕ → Phase
+
+-- How the steps to a finish are taken: one call of `step` after another, or by one turn, which checks the state once.
+pub data Pace : Type 0 where
+  in-steps : Pace
+  in-turns : Pace
 
 -- What can be seen of a call: a finish, with the steps that the request took in all, or a refusal.
 pub data Event : Type 0 where
@@ -126,27 +132,41 @@ stepUntilIdle zero p w = p
 stepUntilIdle (suc n) p w =
     elim (idle (workerAt (p .state .workers) w .line)) [ true ↦ p | false ↦ stepUntilIdle n (stepOnce p w) w ]
 
-phase : Progress → Phase → Progress
-unfolding submitOnce stepMany stepUntilIdle
-phase p (searches w key) = submitOnce p w 1 key 0
-phase p (inserts w key element) = submitOnce p w 2 key element
-phase p (deletes w key) = submitOnce p w 3 key 0
-phase p (takes w n) = stepMany n p w
-phase p (finishes w) = stepUntilIdle 100 p w
+turnSeen : Progress → ℕ → Turned → Verdict → Progress
+unfolding afterStep refusalNumber
+turnSeen p w t Accepted =
+    let n = getD (p .steps) w 0 + t .steps in
+    progress (t .state) (set (p .steps) w n) (afterStep w n (t .lent .line) (p .events))
+turnSeen p w t (Refused r) = progress (t .state) (p .steps) (refused w (refusalNumber r) ∷ p .events)
 
-phases : Progress → List Phase → Progress
+turnOnce : ℕ → Progress → ℕ → Progress
+unfolding computedTurn turnSeen
+turnOnce n p w =
+    let t = computedTurn (p .state) w n (workerAt (p .state .workers) w) in
+    elim (idle (workerAt (p .state .workers) w .line)) [ true ↦ p | false ↦ turnSeen p w t (t .verdict) ]
+
+phase : Pace → Progress → Phase → Progress
+unfolding submitOnce stepMany stepUntilIdle turnOnce
+phase pace p (searches w key) = submitOnce p w 1 key 0
+phase pace p (inserts w key element) = submitOnce p w 2 key element
+phase pace p (deletes w key) = submitOnce p w 3 key 0
+phase pace p (takes w n) = stepMany n p w
+phase in-steps p (finishes w) = stepUntilIdle 100 p w
+phase in-turns p (finishes w) = turnOnce 100 p w
+
+phases : Pace → Progress → List Phase → Progress
 unfolding phase
-phases p [] = p
-phases p (x ∷ xs) = phases (phase p x) xs
+phases pace p [] = p
+phases pace p (x ∷ xs) = phases pace (phase pace p x) xs
 
 -- each save's insert, to its finish
 additions : List Save → List Phase
 additions [] = []
 additions (s ∷ ss) = inserts 7 (s .key) (s .element) ∷ finishes 7 ∷ additions ss
 
-started : List Save → Catalogue
+started : Pace → List Save → Catalogue
 unfolding phases additions
-started saves = phases (progress emptyCatalogue (replicate 8 0) []) (additions saves) .state
+started pace saves = phases pace (progress emptyCatalogue (replicate 8 0) []) (additions saves) .state
 
 -- What is seen of a schedule, as one constructor: so it is computed once.
 pub data Seen : Type 0 where
@@ -161,19 +181,19 @@ seenOf : Progress → Seen
 unfolding seenAt
 seenOf p = seenAt (p .events) (p .state .rows)
 
-unfoldable pub outcomeOf : Worked → Seen
+unfoldable pub outcomeOf : Pace → Worked → Seen
 unfolding started phases seenOf
-outcomeOf w = seenOf (phases (progress (started (w .start)) (replicate 8 0) []) (w .script))
+outcomeOf pace w = seenOf (phases pace (progress (started pace (w .start)) (replicate 8 0) []) (w .script))
 
 -- what the schedules of a table do, and what the table says
-unfoldable pub outcomes : List Worked → List Seen
-outcomes [] = []
-outcomes (w ∷ ws) = outcomeOf w ∷ outcomes ws
+unfoldable pub outcomes : Pace → List Worked → List Seen
+outcomes pace [] = []
+outcomes pace (w ∷ ws) = outcomeOf pace w ∷ outcomes pace ws
 
 unfoldable pub claims : List Worked → List Seen
 claims [] = []
 claims (w ∷ ws) = seen (w .events) (w .taken) (w .saves) (w .chain) ∷ claims ws
 
 -- Every row of the table says what its schedule does.
-abbrev pub Right : List Worked → Type 0
-Right table = outcomes table ≡ claims table
+abbrev pub Right : Pace → List Worked → Type 0
+Right pace table = outcomes pace table ≡ claims table

@@ -1,7 +1,7 @@
 -- A schedule that is long to compute, under the statement of the model's tables: 126 keys, and then Full.
 use mathlib.Core.Path.{refl}
 use mathlib.Core.List.{List, [], _∷_}
-use Rattle.model.specs.Worked.{Worked, Right, outcomes, claims, outcomeOf, inserts, deletes, takes, finishes, answered, descending, rising}
+use Rattle.model.specs.Worked.{Worked, in-turns, Right, outcomes, claims, outcomeOf, inserts, deletes, takes, finishes, answered, descending, rising}
 use Rattle.model.specs.declared.Answer.the-variants.{Added, Duplicate, Removed, Full}
 
 -- The full catalogue. Of the last two rows one insert holds one and another links one: a new key is Full. The held row is
@@ -23,6 +23,6 @@ full = record {
 pub fullTable : List Worked
 fullTable = full ∷ []
 
-pub full-table-right : Right fullTable
+pub full-table-right : Right in-turns fullTable
 unfolding outcomes claims outcomeOf fullTable
 full-table-right = refl
