@@ -38,7 +38,7 @@ fn run_events(file: &[u8]) {
 pub fn replay(file: &[u8]) -> Verdict
     ensures { λ r. ⌜ r ≡ fileVerdict (now (file .entry)) ⌝ }
 {
-    let verdict = schedule::check(file);
+    let verdict = schedule_file::check(file);
     match verdict {
         Verdict::Refused(refusal) => {
             show(schedule::refused_file(refusal));

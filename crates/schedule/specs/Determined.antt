@@ -2,19 +2,14 @@
 use Prim.Native.Nat.{ℕ}
 use mathlib.Core.Path.{_≡_, ap, sym, _∙_}
 use mathlib.Core.List.{List}
-use Rattle.model.specs.Schedule.{fileVerdict}
 use Rattle.model.specs.Printed.{heading, lastLine, refusedFile}
 use Rattle.model.specs.declared.Catalogue.{Catalogue}
 use Rattle.model.specs.declared.Refusal.{Refusal}
-use Rattle.model.specs.declared.Verdict.{Verdict}
 use Rattle.schedule.specs.declared.text.Text.{Text}
 use Rattle.schedule.specs.declared.run.Run.{Run}
 use Rattle.schedule.specs.declared.run.Event.{Event}
 use Rattle.schedule.specs.Shown.{Shows, shows-same}
 use Rattle.schedule.specs.Events.{startRun, Happens}
-
-pub check-determined : (file : List ℕ) (v w : Verdict) → v ≡ fileVerdict file → w ≡ fileVerdict file → v ≡ w
-check-determined file v w p q = p ∙ sym q
 
 pub start-determined : (r s : Run) → r ≡ startRun → s ≡ startRun → r ≡ s
 start-determined r s p q = p ∙ sym q

@@ -13,7 +13,7 @@ use Rattle.model.specs.Printed.{eventText}
 use Rattle.schedule.specs.declared.run.Run.{Run}
 use Rattle.schedule.specs.declared.run.Event.{Event}
 use Rattle.schedule.specs.Shown.{Shows}
-use Rattle.schedule.specs.Records.{callAt, after}
+use Rattle.schedule_file.specs.Records.{callAt, after}
 
 abbrev pub startRun : Run
 startRun = record { state = emptyCatalogue; event = 1; at = 3 }

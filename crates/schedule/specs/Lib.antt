@@ -2,7 +2,6 @@ pub mod Shown
 pub mod Digits
 pub mod Lines
 pub mod Rows
-pub mod Records
 pub mod Events
 pub mod Whole
 pub mod Determined

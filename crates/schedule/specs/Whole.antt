@@ -18,7 +18,7 @@ use Rattle.schedule.specs.declared.text.Text.{Text}
 use Rattle.schedule.specs.declared.run.Run.{Run}
 use Rattle.schedule.specs.declared.run.Event.{Event}
 use Rattle.schedule.specs.Shown.{shown, Shows}
-use Rattle.schedule.specs.Records.{callAt, after, left-at, left-after}
+use Rattle.schedule_file.specs.Records.{callAt, after, left-at, left-after}
 use Rattle.schedule.specs.Events.{startRun, moved, Happens, line-inside, next-inside}
 
 -- A run from r to its end, one event after another for as long as a record is left, with the lines of its events.

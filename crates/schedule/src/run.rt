@@ -1,9 +1,11 @@
 // The run of a schedule file, event by event. Every record is an event, numbered from 1.
 
+ghost use Prim.Native.Nat.{_<_};
 ghost use mathlib.Core.Path.{_≡_};
+ghost use lib.ListN.{length};
 ghost use Rattle.model.specs.Run.{call};
+ghost use Rattle.schedule_file.specs.Records.{callAt};
 ghost use Rattle.schedule.specs.Events.{startRun, Happens};
-use crate::file::call_at;
 use crate::lines::event_text;
 use crate::text::Text;
 use crate::text::empty_text;
@@ -12,6 +14,7 @@ use engine::submit;
 use model::Call;
 use model::Catalogue;
 use model::Stepped;
+use schedule_file::record_call;
 use std::num::wrapping_add_u32;
 
 // Where a run stands: the state, the number of the next event, and where its record begins.
@@ -38,6 +41,15 @@ impl Run {
             at: 3,
         }
     }
+}
+
+// The call of the record that begins at `at`.
+fn call_at(file: &[u8], at: usize) -> Call
+    requires { ⌜ at < length (now file) ⌝ }
+    ensures { λ r. ⌜ r ≡ callAt (now (file .entry)) at ⌝ }
+{
+    let start = at + 1;
+    record_call(file[at], &file[start..])
 }
 
 fn make_call(state: Catalogue, x: Call) -> Stepped

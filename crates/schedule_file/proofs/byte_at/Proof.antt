@@ -3,8 +3,8 @@ use borrow.Author.Needs.{needs}
 use mathlib.Core.Path.{refl, sym}
 use native.Mathlib.Omega.{arith}
 use lib.ListN.{List·getD-eq-default}
-use Rattle.schedule.proofs.file.byte_at.Statement.{statement}
-use Rattle.schedule.proofs.file.byte_at.Tie as tie
+use Rattle.schedule_file.proofs.byte_at.Statement.{statement}
+use Rattle.schedule_file.proofs.byte_at.Tie as tie
 
 pub byte-at-spec : {M : Type 1} → statement M
 byte-at-spec =

@@ -1,8 +1,8 @@
 -- `call_at` reads the record whose length byte stands at the position.
 use borrow.Author.Needs.{needs}
-use Rattle.schedule.specs.Records.{whole-rest}
-use Rattle.schedule.proofs.file.call_at.Statement.{statement}
-use Rattle.schedule.proofs.file.call_at.Tie as tie
+use Rattle.schedule_file.specs.Records.{whole-rest}
+use Rattle.schedule.proofs.run.call_at.Statement.{statement}
+use Rattle.schedule.proofs.run.call_at.Tie as tie
 
 pub call-at-spec : {M : Type 1} → statement M
 call-at-spec =

@@ -1,8 +1,8 @@
 -- `record_fits` tests the two lengths that a record can have, as `recordFits` does.
 use borrow.Author.Tests.{ne-eqb}
 use Rattle.model.specs.Schedule.{recordFits}
-use Rattle.schedule.proofs.file.record_fits.Statement.{statement}
-use Rattle.schedule.proofs.file.record_fits.Tie as tie
+use Rattle.schedule_file.proofs.record_fits.Statement.{statement}
+use Rattle.schedule_file.proofs.record_fits.Tie as tie
 
 pub record-fits-spec : {M : Type 1} → statement M
 unfolding recordFits

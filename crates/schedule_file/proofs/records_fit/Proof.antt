@@ -4,9 +4,9 @@ use Prim.Native.Nat.{_+_, _-_}
 use mathlib.Core.Path.{_≡_, refl, sym, _∙_}
 use native.Mathlib.Omega.{arith}
 use lib.ListN.{length, length-drop}
-use Rattle.schedule.specs.Records.{fitsFrom, fits-told, fits-inside, fits-more, fits-stop, fits-end}
-use Rattle.schedule.proofs.file.records_fit.Statement.{statement}
-use Rattle.schedule.proofs.file.records_fit.Tie as tie
+use Rattle.schedule_file.specs.Records.{fitsFrom, fits-told, fits-inside, fits-more, fits-stop, fits-end}
+use Rattle.schedule_file.proofs.records_fit.Statement.{statement}
+use Rattle.schedule_file.proofs.records_fit.Tie as tie
 
 abbrev Inv-loop : tie.InvT-loop
 Inv-loop file at₀ at = fitsFrom file at ≡ fitsFrom file 3

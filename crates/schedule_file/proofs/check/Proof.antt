@@ -5,9 +5,9 @@ use mathlib.Core.Path.{sym, _∙_}
 use lib.ListN.{length-drop}
 use Rattle.accesses.specs.Comparisons.{tests}
 use Rattle.model.specs.Schedule.{fileVerdict}
-use Rattle.schedule.specs.Records.{fitsFrom}
-use Rattle.schedule.proofs.file.check.Statement.{statement}
-use Rattle.schedule.proofs.file.check.Tie as tie
+use Rattle.schedule_file.specs.Records.{fitsFrom}
+use Rattle.schedule_file.proofs.check.Statement.{statement}
+use Rattle.schedule_file.proofs.check.Tie as tie
 
 pub check-spec : {M : Type 1} → statement M
 unfolding fileVerdict fitsFrom

@@ -2,8 +2,8 @@
 use borrow.Author.Needs.{needs}
 use borrow.Author.Tests.{eq-eqb, ne-eqb}
 use Rattle.model.specs.Schedule.{recordCall}
-use Rattle.schedule.proofs.file.record_call.Statement.{statement}
-use Rattle.schedule.proofs.file.record_call.Tie as tie
+use Rattle.schedule_file.proofs.record_call.Statement.{statement}
+use Rattle.schedule_file.proofs.record_call.Tie as tie
 
 pub record-call-spec : {M : Type 1} → statement M
 unfolding recordCall

@@ -1,10 +1,10 @@
-// The schedule file: whether it is refused, and the call of each of its records. A record's bytes are read behind its length byte.
+// The schedule file, for `schedule` and `printer`: whether it is refused, and the call of a record. A record's bytes are read behind its
+// length byte.
 
 ghost use Prim.Native.Nat.{_+_, _<_};
 ghost use mathlib.Core.Path.{_≡_};
-ghost use lib.ListN.{length};
 ghost use Rattle.model.specs.Schedule.{byteAt, twoBytes, fourBytes, recordFits, fileVerdict, recordCall};
-ghost use Rattle.schedule.specs.Records.{fitsFrom, callAt};
+ghost use Rattle.schedule_file.specs.Records.{fitsFrom};
 use model::Call;
 use model::Refusal;
 use model::Verdict;
@@ -93,7 +93,7 @@ pub fn check(file: &[u8]) -> Verdict
 
 // ---- The call of a record ----
 
-fn record_call(n: u8, rest: &[u8]) -> Call
+pub fn record_call(n: u8, rest: &[u8]) -> Call
     ensures { λ r. ⌜ r ≡ recordCall n (now (rest .entry)) ⌝ }
 {
     let worker = byte_at(rest, 0);
@@ -106,12 +106,4 @@ fn record_call(n: u8, rest: &[u8]) -> Call
         key: four_bytes(rest, 2),
         element: four_bytes(rest, 6),
     }
-}
-
-pub fn call_at(file: &[u8], at: usize) -> Call
-    requires { ⌜ at < length (now file) ⌝ }
-    ensures { λ r. ⌜ r ≡ callAt (now (file .entry)) at ⌝ }
-{
-    let start = at + 1;
-    record_call(file[at], &file[start..])
 }

@@ -2,8 +2,8 @@
 use borrow.Author.Needs.{needs}
 use native.Mathlib.Omega.{arith}
 use Rattle.model.specs.Schedule.{twoBytes}
-use Rattle.schedule.proofs.file.two_bytes.Statement.{statement}
-use Rattle.schedule.proofs.file.two_bytes.Tie as tie
+use Rattle.schedule_file.proofs.two_bytes.Statement.{statement}
+use Rattle.schedule_file.proofs.two_bytes.Tie as tie
 
 pub two-bytes-spec : {M : Type 1} → statement M
 unfolding twoBytes
