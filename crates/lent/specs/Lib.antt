@@ -1,4 +1,4 @@
 pub mod Walk
 pub mod Finish
 pub mod Result
-pub mod Coincide
+pub mod OneOutcome

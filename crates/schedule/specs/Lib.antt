@@ -4,4 +4,4 @@ pub mod Lines
 pub mod Rows
 pub mod Events
 pub mod Whole
-pub mod Determined
+pub mod OneOutcome
