@@ -1,2 +1,3 @@
 pub mod Comparisons
 pub mod Slots
+pub mod LowestFree

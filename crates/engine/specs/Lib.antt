@@ -1,4 +1,3 @@
-pub mod Loops
 pub mod Steps
 pub mod Turns
 pub mod OneOutcome

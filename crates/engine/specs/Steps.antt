@@ -31,20 +31,18 @@ then-stored before rows after q row first second = second ∙ ap (λ (l : List R
 pub idle-found : (workers : List Worker) (w : ℕ) (d : Worker) (b : Bool) → w < length workers → idle (getD workers w d .line) ≡ b → idle (workerAt workers w .line) ≡ b
 idle-found workers w d b inside i = ap (λ (k : Worker). idle (k .line)) (getD-any workers w _ d inside) ∙ i
 
-module _ (c : Catalogue) (w : ℕ) (d : Worker) (inside : w < length (c .workers)) where
-  its : workerAt (c .workers) w ≡ getD (c .workers) w d
-  its = getD-any (c .workers) w _ d inside
-
-  pub step-idle : idle (getD (c .workers) w d .line) ≡ true → refuse WorkerIdle c ≡ stepWorker c w
+-- A step of worker w, whose record is k: one law for each way out.
+module _ (c : Catalogue) (w : ℕ) (k : Worker) (its : workerAt (c .workers) w ≡ k) where
+  pub step-idle : idle (k .line) ≡ true → refuse WorkerIdle c ≡ stepWorker c w
   unfolding stepWorker
   step-idle i = simp (its, i)
 
-  module _ (e : Effect) (busy : idle (getD (c .workers) w d .line) ≡ false) (acts : e ≡ effectOf (c .rows) w (getD (c .workers) w d)) where
-    pub step-ninth : ninthHelp (getD (c .workers) w d .count) (e .stack) ≡ true → refuse NinthHelp c ≡ stepWorker c w
+  module _ (e : Effect) (busy : idle (k .line) ≡ false) (acts : e ≡ effectOf (c .rows) w k) where
+    pub step-ninth : ninthHelp (k .count) (e .stack) ≡ true → refuse NinthHelp c ≡ stepWorker c w
     unfolding stepWorker applied
     step-ninth n = simp (its, busy, ← acts, n)
 
-    pub step-moves : (rows : List Row) (after : Worker) → ninthHelp (getD (c .workers) w d .count) (e .stack) ≡ false → rows ≡ written (c .rows) (e .write) → after ≡ workerAfter (getD (c .workers) w d) e → accept (record { rows = rows; workers = set (c .workers) w after }) ≡ stepWorker c w
+    pub step-moves : (rows : List Row) (after : Worker) → ninthHelp (k .count) (e .stack) ≡ false → rows ≡ written (c .rows) (e .write) → after ≡ workerAfter k e → accept (record { rows = rows; workers = set (c .workers) w after }) ≡ stepWorker c w
     unfolding stepWorker applied
     step-moves rows after n r a = simp (its, busy, ← acts, n, r, a)
 

@@ -98,7 +98,7 @@ fn stacked(k: Worker, line: Line, stack: Stack) -> Worker
 }
 
 // On finishing, all other registers of the worker become zero.
-fn worker_after(k: Worker, e: Effect) -> Worker
+pub fn worker_after(k: Worker, e: Effect) -> Worker
     requires { ⌜ ninthHelp (k .count) (e .stack) ≡ false ⌝ }
     ensures { λ r. ⌜ r ≡ workerAfter k e ⌝ }
 {
@@ -113,7 +113,7 @@ fn worker_after(k: Worker, e: Effect) -> Worker
 // ---- Step ----
 
 // What the worker's line does, given the rows that it reads and, if it takes one, the lowest free row.
-fn effect_on(k: Worker, me: u8, first: Row, second: Row, free: u8) -> Effect
+pub fn effect_on(k: Worker, me: u8, first: Row, second: Row, free: u8) -> Effect
     ensures { λ r. ⌜ ((rows : List Row) → length rows ≡ 128 → rowAt rows (firstRow (k .line)) ≡ first → rowAt rows (secondRow (k .line) first) ≡ second → (takesRow (k .line) ≡ true → free ≡ lowestFree rows) → r ≡ effectOf rows me k) ⌝ }
 {
     let line = k.line;

@@ -68,7 +68,7 @@ module _ (workers : List Worker) (i : ℕ) where
   if-holder-named (Held v) h = both-hold (ltb v 8) _ (lt-ltb v 8 (h v refl .0)) (eq-eqb _ _ (h v refl .1))
   if-holder-named Linked h = refl
 
-  row-facts : (r : Row) → rowWell workers i r ≡ true → RowWell workers i r
+  pub row-facts : (r : Row) → rowWell workers i r ≡ true → RowWell workers i r
   unfolding rowWell
   row-facts r h =
       let s = r .standing in

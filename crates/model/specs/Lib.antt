@@ -1,4 +1,4 @@
--- The definitions: records and numbers, the published lines, the calls, the schedule file
+-- The definitions: records and numbers, the published lines, the calls, the schedule file, packed rows
 pub mod State
 pub mod Numbers
 pub mod Order
@@ -16,12 +16,14 @@ pub mod Count
 pub mod Run
 pub mod Schedule
 pub mod Printed
--- Tables, proved by computing: the empty catalogue, worked schedules, states made by hand, counts, files
+pub mod Packed
+-- Tables, proved by computing: the empty catalogue, worked schedules, states made by hand, counts, packed rows, files
 pub mod Empty
 pub mod Computed
 pub mod Worked
 pub mod HandMade
 pub mod CountTable
+pub mod PackedTable
 pub mod Example
 -- Laws of every call, for any state and any numbers
 pub mod Choices

@@ -222,6 +222,12 @@ pub struct Stepped {
     pub state: Catalogue,
 }
 
+// After a submit or a step on packed rows: the rows are in the words that were lent.
+pub struct Called {
+    pub verdict: Verdict,
+    pub workers: [Worker; Catalogue::WORKERS],
+}
+
 // After a turn: the steps taken, and the lent worker record as the loop finds it.
 pub struct Turned {
     pub verdict: Verdict,

@@ -6,7 +6,7 @@ use mathlib.Core.Path.{_≡_, refl, _∙_, sym}
 use native.Mathlib.Omega.{arith}
 use lib.ListN.{length, length-map}
 use Rattle.model.specs.Insert.{lowestFree, lowestFreeFrom}
-use Rattle.engine.specs.Loops.{free-more, free-stop, free-done}
+use Rattle.accesses.specs.LowestFree.{free-more, free-stop, free-done}
 use Rattle.engine.proofs.steps.lowest_free.Statement.{statement}
 use Rattle.engine.proofs.steps.lowest_free.Tie as tie
 
