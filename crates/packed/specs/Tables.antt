@@ -16,9 +16,13 @@ use Rattle.model.specs.Packed.{succWord, restWord, packed, packsRow, packsEach,
 use Rattle.model.specs.declared.Row.{Row}
 use Rattle.model.specs.declared.Worker.{Worker}
 use Rattle.model.specs.declared.Catalogue.{Catalogue}
+use Rattle.model.specs.declared.Verdict.{Verdict}
 use Rattle.model.specs.declared.Verdict.the-variants.{Accepted, Refused}
 use Rattle.model.specs.declared.Refusal.the-variants.{NotWellFormed}
-use Rattle.packing.specs.Stored.{wordAt, storedRow}
+use Rattle.kept.specs.Conditions.{contradiction}
+use Rattle.packing.specs.OneRow.{Bytes}
+use Rattle.packing.specs.Tables.{AllBytes, none, more, PackingOf}
+use Rattle.packing.specs.Stored.{wordAt, storedRow, row-stored-length}
 
 -- ---- The test ----
 
@@ -75,6 +79,16 @@ unfolding packed
 packed-append [] others = refl
 packed-append (r ∷ rows) others = cc (packed-append rows others)
 
+one-more : {rows : List Row} {r : Row} → AllBytes rows → Bytes r → AllBytes (rows ++ r ∷ [])
+one-more none b = more b none
+one-more (more a rest) b = more a (one-more rest b)
+
+-- the words before row i are the packing of the first i rows
+pub record FirstPacked (rows : List Row) (i : ℕ) (words : List ℕ) : Type 0 where
+  pub size : length words ≡ 512
+  pub bytes : AllBytes (take i rows)
+  pub packing : take (i * 4) words ≡ packed (take i rows)
+
 module _ (words : List ℕ) (i : ℕ) (row : Row) (inside : i < 128) (size : length words ≡ 512) where
   row-placed : take ((i + 1) * 4) (storedRow words i row) ≡ take (i * 4) words ++ packed (row ∷ [])
   unfolding storedRow packed
@@ -90,21 +104,47 @@ module _ (words : List ℕ) (i : ℕ) (row : Row) (inside : i < 128) (size : len
       (ap (take ((i + 1) * 4)) (sets-eq four words (i * 4) (omega arith))
       ∙ take-at (take (i * 4) words ++ four) later ((i + 1) * 4) long)
 
-  pub row-packed : (rows : List Row) (d : Row) → length rows ≡ 128 → row ≡ getD rows i d → take (i * 4) words ≡ packed (take i rows)
-      → take ((i + 1) * 4) (storedRow words i row) ≡ packed (take (i + 1) rows)
-  row-packed rows d number found before =
-      row-placed ∙ rw (before, ← packed-append (take i rows) (row ∷ []), add-one, found) (ap packed (sym (take-suc rows i d (omega arith))))
+  -- the first rows are packed, and each can be
+  pub more-packed : (rows : List Row) (d : Row) (after : List ℕ) → length rows ≡ 128 → row ≡ getD rows i d → FirstPacked rows i words
+      → after ≡ storedRow words i row → Bytes row → FirstPacked rows (i + 1) after
+  more-packed rows d after number found h stores bytes =
+      let there = take-suc rows i d (omega arith) in
+      record {
+        size = ap length stores ∙ row-stored-length words i row ∙ size;
+        bytes = rw (add-one, there, ← found) (one-more (h .bytes) bytes);
+        packing =
+            rw stores (row-placed ∙ rw (h .packing, ← packed-append (take i rows) (row ∷ []), add-one, found) (ap packed (sym there)));
+      }
 
-pub all-packed : (c : Catalogue) (before words : List ℕ) → length before ≡ 512 → length words ≡ 512 → length (c .rows) ≡ 128
-    → take 512 words ≡ packed (take 128 (c .rows)) → (Accepted ≡ packVerdict before) × (words ≡ packInto c before)
-unfolding packVerdict packInto
-all-packed c before words was size number h =
-    let same : words ≡ packed (c .rows) = sym (take-all 512 words (omega arith)) ∙ h ∙ ap packed (take-all 128 (c .rows) (omega arith)) in
-    rw (eq-eqb (length before) 512 was) (refl, same)
+pub none-yet : (rows : List Row) (words : List ℕ) → length words ≡ 512 → FirstPacked rows 0 words
+unfolding packed
+none-yet rows words size = record { size = size; bytes = none; packing = refl }
 
-pub none-packed : (c : Catalogue) (words : List ℕ) → (length words ≡ 512 → ⊥) → (Refused NotWellFormed ≡ packVerdict words) × (words ≡ packInto c words)
+-- what packing a catalogue promises: the verdict and the words, and that the words pack its rows
+pub record Packing (c : Catalogue) (before : List ℕ) (r : Verdict) (after : List ℕ) : Type 0 where
+  pub verdict : r ≡ packVerdict before
+  pub words : after ≡ packInto c before
+  pub rows : r ≡ Accepted → PackingOf after (c .rows)
+
+pub all-packed : (c : Catalogue) (before words : List ℕ) → length before ≡ 512 → length (c .rows) ≡ 128 → (i : ℕ) → i ≡ 128 → FirstPacked (c .rows) i words
+    → Packing c before Accepted words
 unfolding packVerdict packInto
-none-packed c words h = rw (ne-eqb (length words) 512 h) (refl, refl)
+all-packed c before words was number i done h =
+    let all = take-all i (c .rows) (omega arith) in
+    let same : packed (c .rows) ≡ words = sym (rw all at (h .packing)) ∙ take-all (i * 4) words (omega (arith, h .size)) in
+    record {
+      verdict = rw (eq-eqb (length before) 512 was);
+      words = rw (eq-eqb (length before) 512 was) (sym same);
+      rows = λ _. record { bytes = rw all at (h .bytes); number = number; packing = same };
+    }
+
+pub none-packed : (c : Catalogue) (words : List ℕ) → (length words ≡ 512 → ⊥) → Packing c words (Refused NotWellFormed) words
+unfolding packVerdict packInto
+none-packed c words h = record {
+  verdict = rw (ne-eqb (length words) 512 h);
+  words = rw (ne-eqb (length words) 512 h);
+  rows = λ e. contradiction (cc);
+}
 
 -- ---- What the tests say of the definitions ----
 

@@ -2,7 +2,8 @@
 
 ghost use mathlib.Core.Path.{_≡_};
 ghost use lib.ListN.{length};
-ghost use Rattle.model.specs.Packed.{packsRows, stateOf, packedWell, packVerdict, packInto, unpack};
+ghost use Rattle.model.specs.Packed.{packsRows, stateOf, packedWell, unpack};
+ghost use Rattle.packed.specs.Tables.{Packing};
 use model::Catalogue;
 use model::Refusal;
 use model::Stepped;
@@ -61,7 +62,7 @@ pub fn packed_well(words: &[u32], workers: [Worker; Catalogue::WORKERS]) -> bool
 
 // The rows of a catalogue go into 512 words. Another number of words is refused with 4, and nothing is written.
 pub fn pack(state: Catalogue, words: &mut [u32]) -> Verdict
-    ensures { λ r. ⌜ (r ≡ packVerdict (now (words .entry))) × (now (words .exit) ≡ packInto state (now (words .entry))) ⌝ }
+    ensures { λ r. ⌜ Packing state (now (words .entry)) r (now (words .exit)) ⌝ }
 {
     if words.len() == 512 {
         let mut i: u8 = 0;

@@ -7,6 +7,7 @@ ghost use lib.ListN.{length};
 ghost use Rattle.model.specs.State.{rowAt};
 ghost use Rattle.model.specs.Insert.{lowestFree};
 ghost use Rattle.model.specs.Packed.{bit, succWord, standingNumber, restWord, succFrom, standingFrom, rowFrom, unpacked, packsRow};
+ghost use Rattle.packing.specs.OneRow.{Bytes};
 ghost use Rattle.packing.specs.Stored.{storedRow, stored};
 use model::Row;
 use model::Standing;
@@ -86,8 +87,9 @@ fn standing_number(s: Standing) -> u32
     }
 }
 
+// Every row of the code can be packed: its numbers are bytes.
 fn rest_word(row: Row) -> u32
-    ensures { λ r. ⌜ r ≡ restWord row ⌝ }
+    ensures { λ r. ⌜ (r ≡ restWord row) × Bytes row ⌝ }
 {
     let standing = row.standing;
     standing_number(standing) * 256 + row.backlink as u32
@@ -96,15 +98,16 @@ fn rest_word(row: Row) -> u32
 // Stores row i; past the last nothing is stored.
 pub fn store_row(words: &mut [u32], i: u8, row: Row)
     requires { ⌜ length (now words) ≡ 512 ⌝ }
-    ensures { λ r. ⌜ now (words .exit) ≡ storedRow (now (words .entry)) i row ⌝ }
+    ensures { λ r. ⌜ (now (words .exit) ≡ storedRow (now (words .entry)) i row) × Bytes row ⌝ }
 {
     let at = (i as usize) * 4;
     let succ = row.succ;
+    let rest = rest_word(row);
     if at < 512 {
         words[at] = row.key;
         words[at + 1] = row.element;
         words[at + 2] = succ_word(succ);
-        words[at + 3] = rest_word(row);
+        words[at + 3] = rest;
     }
 }
 

@@ -20,7 +20,7 @@ packs-row-spec =
     let word = c .before .before .before in
     let start = word .before .before in
     let same = word .succ-word .ensures ∙ ap succWord (word .before .succ-from .ensures) in
-    ap (λ (n : ℕ). eqb n (start .args .rest)) (c .rest-word .ensures ∙ ap restWord (c .before .row-from .ensures))
+    ap (λ (n : ℕ). eqb n (start .args .rest)) (c .rest-word .ensures .0 ∙ ap restWord (c .before .row-from .ensures))
     ∙ packs-by-rest (start .args .succ) (start .args .rest) (sym same ∙ c .before .before .if1 .taken))
     (λ c.
     let word = c .before in

@@ -13,6 +13,7 @@ store-row-spec =
     tie.close
     (tie.spec
     (λ c. search needs)
+    (λ c κs. search needs)
     (λ c. search needs)
     (λ c. search needs)
     (λ c. search needs)
@@ -22,12 +23,13 @@ store-row-spec =
     (λ c. search needs)
     (λ c. search needs)
     (λ c. simp length-set (omega arith))
-    (λ c κs. search needs)
     (λ c. search needs)
     (λ c. search needs)
     (λ c. simp length-set (omega arith))
     (λ c. search needs)
-    (λ c. cc (c .rest-word .ensures, c .before .succ-word .ensures))
     (λ c.
-    let k = c .before .before .before in
-    sym (row-stored-out (k .args .words .now) (k .args .i) (k .args .row) (omega arith))))
+    let rest = c .before .before in
+    (cc (rest .rest-word .ensures .0, c .succ-word .ensures), rest .rest-word .ensures .1))
+    (λ c.
+    let k = c .before .before .before .before in
+    (sym (row-stored-out (k .args .words .now) (k .args .i) (k .args .row) (omega arith)), c .before .rest-word .ensures .1)))
