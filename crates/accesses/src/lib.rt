@@ -5,6 +5,8 @@
 // A function that reads a row takes the row's number and what stands there. Its contract speaks of every list of rows in which the
 // row stands at that number, and cites the definition on that list.
 
+#![tactic(auto)]
+
 mod effects;
 mod help_marked;
 mod order;

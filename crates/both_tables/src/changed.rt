@@ -9,7 +9,7 @@ use std::num::wrapping_add_u32;
 
 // How many tables packed no rows, by the refusal of the call; how many packed rows, by whether the state was well formed; and on how many
 // the two tables, or the words before and after, were different.
-#[derive(Drop)]
+#[derive(Clone, Copy)]
 pub struct Found {
     pub nothing_1: u32,
     pub nothing_4: u32,

@@ -2,6 +2,8 @@
 // rows: over the schedules that are its arguments, random calls, tables with one word changed, and other numbers of words than 512. The
 // stored output was worked out by another machine, from document 01 and docs/PACKED.md.
 
+#![tactic(auto)]
+
 mod changed;
 mod lengths;
 mod published;

@@ -4,7 +4,7 @@ use model::{Call, Called, Catalogue, Line, Stepped, Verdict, Worker};
 use std::num::wrapping_add_u32;
 
 // The catalogue by value; the same packed; and how many calls were made, were refused, and left the two different.
-#[derive(Drop)]
+#[derive(Clone, Copy)]
 pub struct Tables {
     pub state: Catalogue,
     pub words: [u32; 512],
@@ -82,7 +82,7 @@ fn packs(state: Catalogue, words: &[u32]) -> bool {
 }
 
 // A busy worker, or the number of its last answer and its element.
-#[derive(Drop)]
+#[derive(Clone, Copy)]
 struct Reply {
     number: u32,
     element: u32,

@@ -2,6 +2,8 @@
 // definition of it, for every state and every number. `effect_on` and `worker_after` are public for the crate `packed`, whose step is the
 // same but for where the rows are.
 
+#![tactic(auto)]
+
 mod steps;
 mod turns;
 

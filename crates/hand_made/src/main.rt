@@ -2,6 +2,8 @@
 // record that is not the state's own; calls that are refused, on states made by hand; inserts on rows made by hand; counts over lent
 // rows. The stored output was worked out from document 01.
 
+#![tactic(auto)]
+
 mod counts;
 mod inserts;
 mod refused;

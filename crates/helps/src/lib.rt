@@ -1,6 +1,8 @@
 // HelpFlagged(prev, del) and TryMark(del), figure 4, for `lines`. A line takes the rows that it reads as values. A contract speaks of
 // every list of rows in which the given rows stand where the line looks for them, and cites the line's definition on that list.
 
+#![tactic(auto)]
+
 ghost use Rattle.std.specs.Prelude.{◌≡◌, List};
 ghost use Rattle.model.specs.State.{row_at};
 ghost use Rattle.model.specs.HelpFlagged.{with_backlink, help_flagged_1, help_flagged_2, try_mark_2, try_mark_3, try_mark_6, help_flagged_returns, help_flagged_4_help_marked_2, help_line};

@@ -1,1 +1,3 @@
 // What every call keeps, of any well-formed state, reached or made by hand: theorems in specs/. No code.
+
+#![tactic(auto)]

@@ -1,6 +1,8 @@
 // The two functions that take a reference: `count` over lent row records, and `turn` on a lent worker record. Each is a few lines over
 // functions that take their arguments by value; beside it stands one that lends a value of its own, for whoever has no reference.
 
+#![tactic(auto)]
+
 ghost use Rattle.std.specs.Prelude.{◌+◌, ◌≤◌, ◌<◌, ◌≡◌};
 ghost use Rattle.model.specs.Count.{count};
 ghost use Rattle.model.specs.Turn.{turn};
@@ -13,7 +15,7 @@ use model::{Catalogue, Counted, Refusal, Row, Standing, Turned, Verdict, Worker}
 
 // A count on its way. It first checks the rows, `at` going up from 0; then it walks by right from the head, with `left` moves to go.
 // `counted` is what it returns once it no longer goes on.
-#[derive(Drop)]
+#[derive(Clone, Copy)]
 struct Walk {
     going: bool,
     checking: bool,
@@ -162,7 +164,7 @@ pub fn count_of(state: Catalogue) -> Counted
 // ---- The turn ----
 
 // What a turn returns. The lent record is found where it was lent.
-#[derive(Drop)]
+#[derive(Clone, Copy)]
 pub struct TurnResult {
     pub verdict: Verdict,
     pub steps: u32,

@@ -1,5 +1,6 @@
 -- Proofs about a choice: what holds of both branches holds of it.
 use Rattle.std.specs.Prelude.{if◌then◌else◌, Bool, true, false, ◌≡◌, refl}
+
 pub if_both : {A : Type 0} (P : A → Type 0) (b : Bool) {x y : A} → P x → P y → P (if b then x else y)
 if_both P true p q = p
 if_both P false p q = q

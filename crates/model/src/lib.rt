@@ -1,13 +1,15 @@
 // The records of the catalogue: rows, workers, answers and refusals, in the sizes and forms of document 01, and the empty
 // catalogue. What submit, step, turn and count do with them is said once, in specs/.
 
+#![tactic(auto)]
+
 ghost use Rattle.std.specs.Prelude.{◌≡◌};
 ghost use Rattle.model.specs.State.{empty_catalogue, free_row, end_row, idle_worker};
 
 // ---- Rows ----
 
 // A row's successor: C&S compares and writes its three parts together.
-#[derive(Drop)]
+#[derive(Clone, Copy)]
 pub struct Succ {
     pub right: u8,
     pub mark: bool,
@@ -15,14 +17,14 @@ pub struct Succ {
 }
 
 // Who may touch a row: nobody yet, the worker whose unfinished insert took it, or everybody.
-#[derive(Drop)]
+#[derive(Clone, Copy)]
 pub enum Standing {
     Free,
     Held(u8),
     Linked,
 }
 
-#[derive(Drop)]
+#[derive(Clone, Copy)]
 pub struct Row {
     pub key: u32,
     pub element: u32,
@@ -34,7 +36,7 @@ pub struct Row {
 // ---- Answers and refusals ----
 
 // What a finished request was answered. `NoAnswer` is the answer 0 of a worker that has never finished one.
-#[derive(Drop)]
+#[derive(Clone, Copy)]
 pub enum Answer {
     NoAnswer,
     Found(u32),
@@ -46,7 +48,7 @@ pub enum Answer {
 }
 
 // Document 01's table of refusals, in its order: numbers 1 to 11, and no other.
-#[derive(Drop)]
+#[derive(Clone, Copy)]
 pub enum Refusal {
     NoSuchWorker,
     WorkerBusy,
@@ -61,7 +63,7 @@ pub enum Refusal {
     BudgetTooLarge,
 }
 
-#[derive(Drop)]
+#[derive(Clone, Copy)]
 pub enum Verdict {
     Accepted,
     Refused(Refusal),
@@ -73,7 +75,7 @@ pub enum Verdict {
 // accesses has one case for each.
 
 // Who called SearchFrom, with what the caller keeps meanwhile.
-#[derive(Drop)]
+#[derive(Clone, Copy)]
 pub enum SearchCaller {
     Search1,
     Insert1,
@@ -83,7 +85,7 @@ pub enum SearchCaller {
 }
 
 // SearchFrom, and the HelpMarked of its line 5.
-#[derive(Drop)]
+#[derive(Clone, Copy)]
 pub enum SearchLine {
     SearchFrom1,
     SearchFrom3NextMark { next: u8 },
@@ -97,7 +99,7 @@ pub enum SearchLine {
 }
 
 // The element is an insert's. A submit of any other request stores 0 there, and nothing reads it.
-#[derive(Drop)]
+#[derive(Clone, Copy)]
 pub struct SearchFrame {
     pub key: u32,
     pub element: u32,
@@ -106,7 +108,7 @@ pub struct SearchFrame {
 }
 
 // Insert's own accesses. Lines 10 and 11 are one step.
-#[derive(Drop)]
+#[derive(Clone, Copy)]
 pub enum InsertLine {
     Insert4 { next: u8 },
     Insert6 { next: u8, new: u8 },
@@ -115,7 +117,7 @@ pub enum InsertLine {
     Insert18 { new: u8 },
 }
 
-#[derive(Drop)]
+#[derive(Clone, Copy)]
 pub struct InsertFrame {
     pub key: u32,
     pub element: u32,
@@ -123,7 +125,7 @@ pub struct InsertFrame {
 }
 
 // TryFlag, which Delete calls.
-#[derive(Drop)]
+#[derive(Clone, Copy)]
 pub enum FlagLine {
     TryFlag2,
     TryFlag4,
@@ -131,7 +133,7 @@ pub enum FlagLine {
     TryFlag10,
 }
 
-#[derive(Drop)]
+#[derive(Clone, Copy)]
 pub struct FlagFrame {
     pub key: u32,
     pub prev: u8,
@@ -139,7 +141,7 @@ pub struct FlagFrame {
 }
 
 // Who called the outermost HelpFlagged, with what the caller keeps meanwhile.
-#[derive(Drop)]
+#[derive(Clone, Copy)]
 pub enum HelpCaller {
     Insert8 { prev: u8, new: u8 },
     Insert16 { prev: u8, new: u8 },
@@ -147,7 +149,7 @@ pub enum HelpCaller {
 }
 
 // HelpFlagged, and the TryMark and HelpMarked that it calls.
-#[derive(Drop)]
+#[derive(Clone, Copy)]
 pub enum HelpLine {
     HelpFlagged1,
     HelpFlagged2,
@@ -158,7 +160,7 @@ pub enum HelpLine {
     HelpMarked2 { right: u8 },
 }
 
-#[derive(Drop)]
+#[derive(Clone, Copy)]
 pub struct HelpFrame {
     pub key: u32,
     pub element: u32,
@@ -167,7 +169,7 @@ pub struct HelpFrame {
     pub caller: HelpCaller,
 }
 
-#[derive(Drop)]
+#[derive(Clone, Copy)]
 pub enum Line {
     Idle(Answer),
     Search(SearchLine, SearchFrame),
@@ -179,21 +181,21 @@ pub enum Line {
 // ---- Workers and the catalogue ----
 
 // A HelpFlagged(prev, del) that waits in TryMark for another to end.
-#[derive(Drop)]
+#[derive(Clone, Copy)]
 pub struct Pending {
     pub prev: u8,
     pub del: u8,
 }
 
 // The first `count` of `helps` are the pending helps, the last of them the first to run again.
-#[derive(Drop)]
+#[derive(Clone, Copy)]
 pub struct Worker {
     pub line: Line,
     pub helps: [Pending; Catalogue::HELPS],
     pub count: u8,
 }
 
-#[derive(Drop)]
+#[derive(Clone, Copy)]
 pub struct Catalogue {
     pub rows: [Row; Catalogue::ROWS],
     pub workers: [Worker; Catalogue::WORKERS],
@@ -202,7 +204,7 @@ pub struct Catalogue {
 // ---- What a line does ----
 
 // The rows that a line writes, the first one first.
-#[derive(Drop)]
+#[derive(Clone, Copy)]
 pub enum Write {
     NoRow,
     OneRow(u8, Row),
@@ -210,14 +212,14 @@ pub enum Write {
 }
 
 // What becomes of the pending helps.
-#[derive(Drop)]
+#[derive(Clone, Copy)]
 pub enum Stack {
     Keep,
     Push(Pending),
     Pop,
 }
 
-#[derive(Drop)]
+#[derive(Clone, Copy)]
 pub struct Effect {
     pub line: Line,
     pub write: Write,
@@ -227,7 +229,7 @@ pub struct Effect {
 // ---- Calls and what they give back ----
 
 // A call of the catalogue, with any numbers.
-#[derive(Drop)]
+#[derive(Clone, Copy)]
 pub enum Call {
     Submit {
         worker: u32,
@@ -241,21 +243,21 @@ pub enum Call {
 }
 
 // After a submit or a step.
-#[derive(Drop)]
+#[derive(Clone, Copy)]
 pub struct Stepped {
     pub verdict: Verdict,
     pub state: Catalogue,
 }
 
 // After a submit or a step on packed rows: the rows are in the words that were lent.
-#[derive(Drop)]
+#[derive(Clone, Copy)]
 pub struct Called {
     pub verdict: Verdict,
     pub workers: [Worker; Catalogue::WORKERS],
 }
 
 // After a turn: the steps taken, and the lent worker record as the loop finds it.
-#[derive(Drop)]
+#[derive(Clone, Copy)]
 pub struct Turned {
     pub verdict: Verdict,
     pub steps: u32,
@@ -264,7 +266,7 @@ pub struct Turned {
 }
 
 // After a count.
-#[derive(Drop)]
+#[derive(Clone, Copy)]
 pub struct Counted {
     pub verdict: Verdict,
     pub saves: u32,

@@ -1,6 +1,8 @@
 // The catalogue with its rows as words in memory that the caller lends, and its workers as records: submit and step on them, and a whole
 // catalogue packed and unpacked. Any words and any numbers may be given. docs/PACKED.md has the layout.
 
+#![tactic(auto)]
+
 mod calls;
 mod steps;
 mod tables;

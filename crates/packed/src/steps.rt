@@ -13,7 +13,7 @@ use model::{Refusal, Verdict, Worker};
 use packed_rows::{lowest_free, row_at, store};
 
 // After a step: the worker's record.
-#[derive(Drop)]
+#[derive(Clone, Copy)]
 pub struct Moved {
     pub verdict: Verdict,
     pub worker: Worker,

@@ -1,6 +1,8 @@
 // One row in lent words: read, stored, told whether its words are a row's, and the lowest free row. For the crate `packed`. The layout is
 // the model's, in `specs/Packed.antt`: key, element, successor, and the rest.
 
+#![tactic(auto)]
+
 ghost use Rattle.std.specs.Prelude.{◌<◌, ◌≤◌, ◌≡◌, length};
 ghost use Rattle.model.specs.State.{row_at};
 ghost use Rattle.model.specs.Insert.{lowest_free};

@@ -1,6 +1,8 @@
 // What a schedule file prints, written to standard output: for the program and for the test program over all schedules. Which bytes these
 // are is proved in the crate `schedule`; what a call writes is outside any contract.
 
+#![tactic(auto)]
+
 ghost use Rattle.std.specs.Prelude.{◌≡◌};
 ghost use Rattle.model.specs.Schedule.{file_verdict};
 

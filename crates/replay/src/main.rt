@@ -1,5 +1,7 @@
 // The program: a schedule file from standard input, what it prints to standard output.
 
+#![tactic(auto)]
+
 use libc::STDIN_FILENO;
 
 // The largest file has 60,003 bytes; one byte more is read, so that a longer input is refused and not cut.

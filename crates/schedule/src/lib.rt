@@ -3,6 +3,8 @@
 // A file is checked whole (`schedule_file::check`). If it is refused, `refused_file` is all that is printed; else `heading`, the line of
 // each event that has one, and `last_line`. specs/Whole.antt shows that these are the bytes that the model prints for the file.
 
+#![tactic(auto)]
+
 mod lines;
 mod rows;
 mod run;

@@ -13,7 +13,7 @@ use schedule_file::record_call;
 use std::num::wrapping_add_u32;
 
 // Where a run stands: the state, the number of the next event, and where its record begins.
-#[derive(Drop)]
+#[derive(Clone, Copy)]
 pub struct Run {
     pub state: Catalogue,
     pub event: u32,
@@ -21,7 +21,7 @@ pub struct Run {
 }
 
 // After an event: where the run stands now, and the line that the event prints, empty if none.
-#[derive(Drop)]
+#[derive(Clone, Copy)]
 pub struct Event {
     pub run: Run,
     pub text: Text,

@@ -4,7 +4,7 @@ ghost use Rattle.std.specs.Prelude.{◌≡◌};
 ghost use Rattle.model.specs.Printed.{decimal};
 ghost use Rattle.schedule.specs.Shown.{empty_text, pushed, pushed_all};
 
-#[derive(Drop)]
+#[derive(Clone, Copy)]
 pub struct Text {
     pub bytes: [u8; 48],
     pub len: usize,

@@ -1,6 +1,8 @@
 // The schedule file, for `schedule` and `printer`: whether it is refused, and the call of a record. A record's bytes are read behind its
 // length byte.
 
+#![tactic(auto)]
+
 ghost use Rattle.std.specs.Prelude.{◌+◌, ◌<◌, ◌≡◌};
 ghost use Rattle.model.specs.Schedule.{byte_at, two_bytes, four_bytes, record_fits, file_verdict, record_call};
 ghost use Rattle.schedule_file.specs.Records.{fits_from};

@@ -1,6 +1,8 @@
 // SearchFrom(k, curr) and Search, figure 3, for `lines`. A line takes the rows that it reads as values: `here` stands at curr, `ahead` at
 // next. A contract speaks of every list of rows in which the given rows stand there, and cites the line's definition on that list.
 
+#![tactic(auto)]
+
 ghost use Rattle.std.specs.Prelude.{◌≡◌, List};
 ghost use Rattle.model.specs.State.{row_at};
 ghost use Rattle.model.specs.SearchFrom.{strict, reaches, search_2, search_from_returns, search_from_10, search_from_2, search_from_7, search_from_1, search_from_3_next_mark, search_from_3_curr_mark, search_from_3_curr_right, search_from_4, search_from_6, search_from_9, search_line};

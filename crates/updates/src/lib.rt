@@ -4,6 +4,8 @@
 // A contract speaks of every list of rows in which the given rows stand where the line looks for them, and cites the line's definition
 // on that list.
 
+#![tactic(auto)]
+
 mod delete;
 mod insert;
 

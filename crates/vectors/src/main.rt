@@ -1,5 +1,7 @@
 // Every schedule of the folder `schedules`, one after another: its name, and what it prints. The stored output is what it must be.
 
+#![tactic(auto)]
+
 use libc::STDOUT_FILENO;
 
 // The schedule that argument i names.

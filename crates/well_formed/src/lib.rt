@@ -1,6 +1,8 @@
 // When a state is well formed, for `engine` and whoever is given a state: each clause of document 01 as one test, and the loops that put
 // them to every row and every worker.
 
+#![tactic(auto)]
+
 ghost use Rattle.std.specs.Prelude.{◌<◌, ◌≡◌, ◌&&◌, List};
 ghost use Rattle.model.specs.State.{row_at, worker_at};
 ghost use Rattle.model.specs.WellFormed.{all_from, is_row, row_numbers, search_caller_numbers, search_line_numbers, insert_line_numbers, help_caller_numbers, help_line_numbers, line_numbers, pending_numbers, not_both, is_linked, ends_linked, inside_help_flagged, few_helps, helps_inside, held_in_search, held_in_insert, held_in_help, held_row, holder_names, held_by, named_is_held, row_well, worker_well, well_formed};
