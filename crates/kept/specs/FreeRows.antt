@@ -3,7 +3,7 @@ use Rattle.std.specs.Prelude.{ℕ, zero, suc, ◌+◌, ◌≤◌, ◌<◌, true,
 use Rattle.std.proofs.Common.{arith, ltb-true, ltb-false, le-ltb}
 use Rattle.std.proofs.Math.Decide.{ℕ_discrete}
 use Rattle.model.specs.State.{row_at}
-use Rattle.model.specs.Choices.{if_known}
+use Rattle.model.proofs.Choices.{if_known}
 use Rattle.model.specs.Insert.{is_free, lowest_free_from, lowest_free}
 use Rattle.model.specs.declared.Row.{Row}
 use Rattle.model.specs.declared.Standing.TheVariants.{Free}

@@ -4,7 +4,7 @@ use Rattle.std.proofs.Common.{arith, length-set, leb-false}
 use Rattle.model.specs.State.{no_help, no_helps, fresh_worker, idle}
 use Rattle.model.specs.Step.{stacked, worker_after, ninth_help}
 use Rattle.model.specs.WellFormed.{all_from, pending_numbers}
-use Rattle.model.specs.Choices.{if_known}
+use Rattle.model.proofs.Choices.{if_known}
 use Rattle.model.specs.declared.Pending.{Pending}
 use Rattle.model.specs.declared.Worker.{Worker}
 use Rattle.model.specs.declared.Line.{Line}

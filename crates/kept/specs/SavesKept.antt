@@ -5,7 +5,7 @@ use Rattle.model.specs.State.{row_at}
 use Rattle.model.specs.WellFormed.{well_formed, no_row_held}
 use Rattle.model.specs.Step.{step_worker, step, submit}
 use Rattle.model.specs.Run.{call, run}
-use Rattle.model.specs.TurnCount.{Steps, no_step, one_more}
+use Rattle.model.proofs.TurnCount.{Steps, no_step, one_more}
 use Rattle.model.specs.declared.Call.{Call}
 use Rattle.model.specs.declared.Call.TheVariants.{Submit, Step}
 use Rattle.model.specs.declared.Catalogue.{Catalogue}

@@ -5,7 +5,7 @@ use Rattle.std.proofs.Common.{ap, ◌∙◌, length-set}
 use Rattle.model.specs.State.{worker_at, idle_worker, empty_catalogue, idle}
 use Rattle.model.specs.Step.{written, stacked, worker_after, step_worker, step, submit, with_worker}
 use Rattle.model.specs.Turn.{turn_from, turn}
-use Rattle.model.specs.Choices.{if_known}
+use Rattle.model.proofs.Choices.{if_known}
 use Rattle.model.specs.declared.Row.{Row}
 use Rattle.model.specs.declared.Worker.{Worker}
 use Rattle.model.specs.declared.Catalogue.{Catalogue}

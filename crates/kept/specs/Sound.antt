@@ -8,7 +8,7 @@ use Rattle.model.specs.Cas.{cas, same_succ, succ_at, with_succ}
 use Rattle.model.specs.Effects.{go, go_writing}
 use Rattle.model.specs.Step.{written}
 use Rattle.model.specs.WellFormed.{is_row, not_both, held_row, no_row_held, line_numbers, pending_numbers, inside_help_flagged}
-use Rattle.model.specs.Choices.{if_known}
+use Rattle.model.proofs.Choices.{if_known}
 use Rattle.model.specs.declared.Row.{Row}
 use Rattle.model.specs.declared.Succ.{Succ}
 use Rattle.model.specs.declared.Standing.TheVariants.{Free, Held}

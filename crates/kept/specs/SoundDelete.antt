@@ -8,7 +8,7 @@ use Rattle.model.specs.Cas.{same_succ, succ_at}
 use Rattle.model.specs.Effects.{go}
 use Rattle.model.specs.Delete.{delete_2, delete_6, delete_7, try_flag_2, try_flag_4, try_flag_5, try_flag_9, try_flag_10, try_flag_12, flag_line}
 use Rattle.model.specs.WellFormed.{is_row, no_row_held}
-use Rattle.model.specs.Choices.{if_known}
+use Rattle.model.proofs.Choices.{if_known}
 use Rattle.model.specs.declared.Row.{Row}
 use Rattle.model.specs.declared.Succ.{Succ}
 use Rattle.model.specs.declared.Answer.TheVariants.{Absent, Removed}

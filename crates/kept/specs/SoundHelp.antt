@@ -10,7 +10,7 @@ use Rattle.model.specs.Effects.{go}
 use Rattle.model.specs.HelpMarked.{help_marked_1, help_marked_2}
 use Rattle.model.specs.HelpFlagged.{with_backlink, help_flagged_1, help_flagged_2, try_mark_2, try_mark_3, try_mark_6, help_flagged_returns, help_flagged_4_help_marked_2, help_line}
 use Rattle.model.specs.WellFormed.{is_row, held_in_help, help_caller_numbers, pending_numbers, help_line_numbers}
-use Rattle.model.specs.Choices.{if_known}
+use Rattle.model.proofs.Choices.{if_known}
 use Rattle.model.specs.declared.Row.{Row}
 use Rattle.model.specs.declared.Pending.{Pending}
 use Rattle.model.specs.declared.HelpCaller.{HelpCaller}

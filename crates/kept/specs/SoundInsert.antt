@@ -10,7 +10,7 @@ use Rattle.model.specs.Effects.{go, go_writing}
 use Rattle.model.specs.Insert.{insert_frame, insert_2, insert_20, lowest_free, insert_4, insert_6, insert_15, linked_row, insert_10_11, insert_17, insert_18, insert_line}
 use Rattle.model.specs.Step.{written}
 use Rattle.model.specs.WellFormed.{is_row, held_row, held_in_insert, no_row_held, line_numbers}
-use Rattle.model.specs.Choices.{if_known}
+use Rattle.model.proofs.Choices.{if_known}
 use Rattle.model.specs.declared.Row.{Row}
 use Rattle.model.specs.declared.Succ.{Succ}
 use Rattle.model.specs.declared.Standing.TheVariants.{Free, Held}

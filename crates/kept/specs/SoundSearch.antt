@@ -9,7 +9,7 @@ use Rattle.model.specs.Effects.{go}
 use Rattle.model.specs.HelpMarked.{help_marked_1, help_marked_2}
 use Rattle.model.specs.SearchFrom.{search_2, reaches, search_from_returns, search_from_10, search_from_2, search_from_7, search_from_1, search_from_3_next_mark, search_from_3_curr_mark, search_from_3_curr_right, search_from_4, search_from_6, search_from_9, search_line}
 use Rattle.model.specs.WellFormed.{is_row, no_row_held, held_in_search, search_caller_numbers, search_line_numbers}
-use Rattle.model.specs.Choices.{if_known}
+use Rattle.model.proofs.Choices.{if_known}
 use Rattle.model.specs.declared.Row.{Row}
 use Rattle.model.specs.declared.Answer.TheVariants.{Found, Absent}
 use Rattle.model.specs.declared.SearchCaller.{SearchCaller}

@@ -5,7 +5,7 @@ use Rattle.std.proofs.Common.{arith, le-ltb, ltb-false}
 use Rattle.model.specs.WellFormed.{well_formed}
 use Rattle.model.specs.Step.{step_worker, step, with_worker}
 use Rattle.model.specs.Turn.{turn}
-use Rattle.model.specs.TurnCount.{Steps, no_step, one_more, Stopped, spent, finished, ninth, Counts, unchecked, Ran, Took, turn_counts}
+use Rattle.model.proofs.TurnCount.{Steps, no_step, one_more, Stopped, spent, finished, ninth, Counts, unchecked, Ran, Took, turn_counts}
 use Rattle.model.specs.declared.Worker.{Worker}
 use Rattle.model.specs.declared.Catalogue.{Catalogue}
 use Rattle.model.specs.declared.Stepped.{Stepped}

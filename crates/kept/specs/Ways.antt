@@ -9,7 +9,7 @@ use Rattle.model.specs.WellFormed.{well_formed}
 use Rattle.model.specs.Step.{refuse, accept, written, worker_after, ninth_help, applied, effect_of, step_worker, step, submit, is_request, first_line, with_worker}
 use Rattle.model.specs.Turn.{accepted, turn_ends, turn_from, refuse_turn, turn_of, turn}
 use Rattle.model.specs.Run.{call}
-use Rattle.model.specs.Choices.{if_known}
+use Rattle.model.proofs.Choices.{if_known}
 use Rattle.model.specs.declared.Line.{Line}
 use Rattle.model.specs.declared.Worker.{Worker}
 use Rattle.model.specs.declared.Catalogue.{Catalogue}

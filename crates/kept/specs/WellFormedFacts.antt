@@ -4,7 +4,7 @@ use Rattle.std.proofs.Math.Path.{refl}
 use borrow.Author.Tests.{ltb-true, lt-ltb, leb-true, le-leb, eqb-true, eq-eqb, ne_eqb}
 use Rattle.model.specs.State.{row_at, worker_at, idle_worker, free_row}
 use Rattle.model.specs.WellFormed.{all_from, is_row, row_numbers, not_both, ends_linked, holder_names, named_is_held, held_row, no_row_held, line_numbers, pending_numbers, few_helps, helps_inside, inside_help_flagged, row_well, worker_well, well_formed}
-use Rattle.model.specs.Choices.{if_known}
+use Rattle.model.proofs.Choices.{if_known}
 use Rattle.model.specs.declared.Row.{Row}
 use Rattle.model.specs.declared.Worker.{Worker}
 use Rattle.model.specs.declared.Catalogue.{Catalogue}

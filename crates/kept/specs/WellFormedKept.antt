@@ -3,14 +3,14 @@
 use Rattle.std.specs.Prelude.{ℕ, ◌<◌, true, ◌≡◌, refl, List, [], ◌∷◌, eqb}
 use Rattle.model.specs.State.{idle, empty_catalogue}
 use Rattle.model.specs.Order.{head}
-use Rattle.model.specs.Empty.{empty_well_formed}
-use Rattle.model.specs.Answers.{line_after}
+use Rattle.model.proofs.Empty.{empty_well_formed}
+use Rattle.model.proofs.Answers.{line_after}
 use Rattle.model.specs.Effects.{go}
 use Rattle.model.specs.WellFormed.{held_row, no_row_held, well_formed}
 use Rattle.model.specs.Step.{written, worker_after, step_worker, step, submit, first_line}
 use Rattle.model.specs.declared.Catalogue.{Catalogue}
 use Rattle.model.specs.Run.{call, run}
-use Rattle.model.specs.Choices.{if_known}
+use Rattle.model.proofs.Choices.{if_known}
 use Rattle.model.specs.declared.Call.{Call}
 use Rattle.model.specs.declared.Call.TheVariants.{Submit, Step}
 use Rattle.model.specs.declared.SearchCaller.TheVariants.{Search1, Insert1, Delete1}

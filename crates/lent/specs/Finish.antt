@@ -9,7 +9,7 @@ use Rattle.std.proofs.Math.Bool.{true, false}
 use Rattle.std.proofs.Math.ListN.{length}
 use Rattle.std.proofs.lemmas.Bool.{eqb-false}
 use Rattle.model.specs.State.{free_row, row_at}
-use Rattle.model.specs.Choices.{if_both, if_known}
+use Rattle.model.proofs.Choices.{if_both, if_known}
 use Rattle.model.specs.Order.{head, tail}
 use Rattle.model.specs.WellFormed.{all_from, row_numbers}
 use Rattle.model.specs.Count.{walk, is_save, saves_among, saves, countable, count}

@@ -4,7 +4,7 @@ use Rattle.std.specs.Prelude.{◌≡◌, List, ℕ}
 use Rattle.std.proofs.Common.{sym, ◌∙◌}
 use Rattle.model.specs.Count.{count}
 use Rattle.model.specs.Turn.{turn}
-use Rattle.model.specs.OneOutcome.{determined}
+use Rattle.model.proofs.OneOutcome.{determined}
 use Rattle.model.specs.declared.Row.{Row}
 use Rattle.model.specs.declared.Catalogue.{Catalogue}
 use Rattle.model.specs.declared.Counted.{Counted}

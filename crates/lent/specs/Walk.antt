@@ -1,7 +1,7 @@
 -- What the code of the count does at one row: it checks the row's numbers, or counts the row and moves right.
 use Rattle.std.specs.Prelude.{if◌then◌else◌, ℕ, ◌+◌, ◌-◌, ◌≤◌, true, false, ◌&&◌, ltb, eqb}
 use Rattle.std.proofs.Common.{arith}
-use Rattle.model.specs.Choices.{if_both}
+use Rattle.model.proofs.Choices.{if_both}
 use Rattle.model.specs.Order.{head, tail}
 use Rattle.model.specs.WellFormed.{row_numbers, is_linked}
 use Rattle.model.specs.declared.Row.{Row}

@@ -2,7 +2,7 @@
 -- that `submit` and `unpack` are lent are read only, so they are the same before and after.
 use Rattle.std.specs.Prelude.{ℕ, ◌≡◌, List}
 use Rattle.std.proofs.Common.{sym, ◌∙◌}
-use Rattle.model.specs.OneOutcome.{determined}
+use Rattle.model.proofs.OneOutcome.{determined}
 use Rattle.model.specs.Packed.{packed_call, unpack}
 use Rattle.model.specs.declared.Worker.{Worker}
 use Rattle.model.specs.declared.Catalogue.{Catalogue}

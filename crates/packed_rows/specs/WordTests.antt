@@ -5,7 +5,7 @@ use Rattle.std.proofs.Math.Path.{ap}
 use Rattle.std.proofs.Common.{◌∙◌, arith, eq-eqb, ne_eqb}
 use Rattle.model.specs.State.{row_at}
 use Rattle.model.specs.Insert.{is_free}
-use Rattle.model.specs.Choices.{if_both}
+use Rattle.model.proofs.Choices.{if_both}
 use Rattle.model.specs.Packed.{succ_word, rest_word, succ_from, standing_from, row_from, unpacked, packs_row}
 use Rattle.model.specs.declared.Row.{Row}
 use Rattle.packing.specs.Stored.{word_at, row_found_lem}

@@ -11,8 +11,8 @@ use Rattle.model.specs.Step.{refuse, accept, step, submit}
 use Rattle.model.specs.Run.{call, run}
 use Rattle.model.specs.Printed.{call_worker}
 use Rattle.model.specs.WellFormed.{well_formed}
-use Rattle.model.specs.Empty.{empty_well_formed}
-use Rattle.model.specs.Refusals.{refused_changes_nothing}
+use Rattle.model.proofs.Empty.{empty_well_formed}
+use Rattle.model.proofs.Refusals.{refused_changes_nothing}
 use Rattle.model.specs.Packed.{packed, unpacked, packs_rows, state_of, packed_well, OnWords, packed_stepped, refused_on, packed_call, pack_into, unpack}
 use Rattle.model.specs.declared.Row.{Row}
 use Rattle.model.specs.declared.Worker.{Worker}

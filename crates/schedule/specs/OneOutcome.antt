@@ -1,7 +1,7 @@
 -- The contracts of the public functions determine their results: two outcomes that a contract allows are the same.
 use Rattle.std.specs.Prelude.{◌≡◌, ℕ, List}
 use Rattle.std.proofs.Common.{ap, sym, ◌∙◌}
-use Rattle.model.specs.OneOutcome.{determined}
+use Rattle.model.proofs.OneOutcome.{determined}
 use Rattle.model.specs.Numbers.{answer_number, answer_element, refusal_number}
 use Rattle.model.specs.Printed.{heading, last_line, refused_file}
 use Rattle.model.specs.declared.Answer.{Answer}

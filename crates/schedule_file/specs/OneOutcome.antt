@@ -1,7 +1,7 @@
 -- The contracts of the public functions determine their results: two outcomes that a contract allows are the same.
 use Rattle.std.specs.Prelude.{ℕ, ◌≡◌, List}
 use Rattle.model.specs.Schedule.{file_verdict, record_call}
-use Rattle.model.specs.OneOutcome.{determined}
+use Rattle.model.proofs.OneOutcome.{determined}
 use Rattle.model.specs.declared.Verdict.{Verdict}
 use Rattle.model.specs.declared.Call.{Call}
 

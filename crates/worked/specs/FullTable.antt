@@ -1,6 +1,6 @@
 -- A schedule that is long to compute, under the statement of the model's tables: 126 keys, and then Full.
 use Rattle.std.specs.Prelude.{refl, List, [], ◌∷◌}
-use Rattle.model.specs.Worked.{Worked, in_turns, Right, outcomes, claims, outcome_of, inserts, deletes, takes, finishes, answered, descending, rising}
+use Rattle.model.proofs.Worked.{Worked, in_turns, Right, outcomes, claims, outcome_of, inserts, deletes, takes, finishes, answered, descending, rising}
 use Rattle.model.specs.declared.Answer.TheVariants.{Added, Duplicate, Removed, Full}
 
 -- The full catalogue. Of the last two rows one insert holds one and another links one: a new key is Full. The held row is
