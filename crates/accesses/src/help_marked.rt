@@ -9,6 +9,7 @@ use crate::swap::{cas, succ_of};
 use model::{Row, Write};
 
 // Line 1.
+#[tactic(auto, unfolding(model::specs::HelpMarked::help_marked_1))]
 pub fn help_marked_1(del: u8, row: Row) -> u8
     ensures { (rows : List Row) → row_at rows del ≡ row → result ≡ help_marked_1 rows del }
 {
@@ -16,6 +17,7 @@ pub fn help_marked_1(del: u8, row: Row) -> u8
 }
 
 // Line 2.
+#[tactic(auto, unfolding(model::specs::HelpMarked::help_marked_2))]
 pub fn help_marked_2(prev: u8, row: Row, del: u8, right: u8) -> Write
     ensures { (rows : List Row) → row_at rows prev ≡ row → result ≡ help_marked_2 rows prev del right }
 {

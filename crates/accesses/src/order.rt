@@ -13,6 +13,7 @@ const HEAD: u8 = 0;
 const TAIL: u8 = 1;
 
 // "row.key ≤ k"
+#[tactic(auto, unfolding(model::specs::Order::key_at_most))]
 pub fn key_at_most(i: u8, row: Row, k: u32) -> bool
     ensures { (rows : List Row) → row_at rows i ≡ row → result ≡ key_at_most rows i k }
 {
@@ -26,6 +27,7 @@ pub fn key_at_most(i: u8, row: Row, k: u32) -> bool
 }
 
 // "row.key ≤ k − ε"
+#[tactic(auto, unfolding(model::specs::Order::key_below))]
 pub fn key_below(i: u8, row: Row, k: u32) -> bool
     ensures { (rows : List Row) → row_at rows i ≡ row → result ≡ key_below rows i k }
 {
@@ -39,6 +41,7 @@ pub fn key_below(i: u8, row: Row, k: u32) -> bool
 }
 
 // "row.key == k"
+#[tactic(auto, unfolding(model::specs::Order::has_key))]
 pub fn has_key(i: u8, row: Row, k: u32) -> bool
     ensures { (rows : List Row) → row_at rows i ≡ row → result ≡ has_key rows i k }
 {

@@ -17,6 +17,7 @@ pub fn is_request(code: u32) -> bool
 }
 
 // The private work before a request's first access.
+#[tactic(auto, unfolding(model::specs::Step::first_line))]
 pub fn first_line(code: u32, key: u32, element: u32) -> Line
     ensures { result ≡ first_line code key element }
 {

@@ -19,6 +19,7 @@ fn same_bit(a: bool, b: bool) -> bool
     if a { b } else { !b }
 }
 
+#[tactic(auto, unfolding(model::specs::Cas::same_succ))]
 pub fn same_succ(a: Succ, b: Succ) -> bool
     ensures { result ≡ same_succ a b }
 {
@@ -33,6 +34,7 @@ pub fn same_succ(a: Succ, b: Succ) -> bool
 }
 
 // "(*, 0, 1)"
+#[tactic(auto, unfolding(model::specs::Cas::flagged_only))]
 pub fn flagged_only(s: Succ) -> bool
     ensures { result ≡ flagged_only s }
 {
@@ -48,6 +50,7 @@ pub fn with_succ(row: Row, succ: Succ) -> Row
 }
 
 // What C&S at row i from `old` to `new` writes. Its result is the successor that `row` came with.
+#[tactic(auto, unfolding(model::specs::Cas::cas))]
 pub fn cas(i: u8, row: Row, old: Succ, new: Succ) -> Write
     ensures { (rows : List Row) → row_at rows i ≡ row → result ≡ cas rows i old new }
 {

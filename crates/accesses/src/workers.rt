@@ -65,6 +65,7 @@ pub fn with_help(
     helps
 }
 
+#[tactic(auto, unfolding(model::specs::Step::ninth_help))]
 pub fn ninth_help(count: u8, stack: Stack) -> bool
     ensures { result ≡ ninth_help count stack }
 {
