@@ -1,21 +1,16 @@
 // What the program prints.
 
-use libc::STDOUT_FILENO;
 use model::{Answer, Line, Refusal, Verdict};
+use std::io;
 
-pub fn text(words: &[u8]) {
-    io::write_all(STDOUT_FILENO, words);
-}
-
-pub fn field(name: &[u8], value: u32) {
-    text(name);
-    io::print_decimal(STDOUT_FILENO, value as u64);
+pub fn field(rt: &impl Print, name: &str, value: u32) -> io::Result<()> {
+    print!(rt; "{name}{value}")
 }
 
 // `accepted`, or `r` and the refusal's number.
-pub fn verdict(v: Verdict) {
+pub fn verdict(rt: &impl Print, v: Verdict) -> io::Result<()> {
     match v {
-        Verdict::Accepted => text(b"accepted"),
+        Verdict::Accepted => rt.print("accepted"),
         Verdict::Refused(r) => {
             let n = match r {
                 Refusal::NoSuchWorker => 1,
@@ -30,28 +25,28 @@ pub fn verdict(v: Verdict) {
                 Refusal::FileTooLong => 10,
                 Refusal::BudgetTooLarge => 11,
             };
-            field(b"r", n)
+            field(rt, "r", n)
         }
     }
 }
 
-fn answer(a: Answer) {
+fn answer(rt: &impl Print, a: Answer) -> io::Result<()> {
     match a {
-        Answer::NoAnswer => text(b", no answer"),
-        Answer::Found(e) => field(b", Found ", e),
-        Answer::Absent => text(b", Absent"),
-        Answer::Added => text(b", Added"),
-        Answer::Duplicate => text(b", Duplicate"),
-        Answer::Removed(e) => field(b", Removed ", e),
-        Answer::Full => text(b", Full"),
+        Answer::NoAnswer => rt.print(", no answer"),
+        Answer::Found(e) => field(rt, ", Found ", e),
+        Answer::Absent => rt.print(", Absent"),
+        Answer::Added => rt.print(", Added"),
+        Answer::Duplicate => rt.print(", Duplicate"),
+        Answer::Removed(e) => field(rt, ", Removed ", e),
+        Answer::Full => rt.print(", Full"),
     }
 }
 
 // The last answer of an idle worker, or that it is busy.
-pub fn line(l: Line) {
+pub fn line(rt: &impl Print, l: Line) -> io::Result<()> {
     if let Line::Idle(a) = l {
-        answer(a);
+        answer(rt, a)
     } else {
-        text(b", busy");
+        rt.print(", busy")
     }
 }

@@ -1,12 +1,11 @@
-// The program: a schedule file from standard input, what it prints to standard output.
+// The program: a schedule file from standard input, what it prints to standard output. A read or a write that fails ends it with the
+// error.
 
 #![tactic(auto)]
 
-use libc::STDIN_FILENO;
+use std::io;
 
-// The largest file has 60,003 bytes; one byte more is read, so that a longer input is refused and not cut.
-fn main() {
-    let mut buffer = [0u8; 60004];
-    let n = io::read_full(STDIN_FILENO, &mut buffer);
-    printer::replay(&buffer[..n]);
+fn main(rt: HostRuntime) -> io::Result<()> {
+    printer::replay_from(&mut rt.stdin(), &mut rt.stdout())?;
+    Ok(())
 }

@@ -2,30 +2,38 @@
 
 #![tactic(auto)]
 
-use libc::STDOUT_FILENO;
+use std::env::{Env, FillError};
+use std::fs::{File, Files};
+use std::io;
 
-// The schedule that argument i names.
-fn replay_argument(i: usize) {
-    let mut name = [0u8; 100];
-    let n = os::arg(i, &mut name);
-    io::write_all(STDOUT_FILENO, &name[..n]);
-    io::write_all(STDOUT_FILENO, b"\n");
-    let file = os::open_read(&name[..n]);
-    if file < 0 {
-        io::write_all(STDOUT_FILENO, b"cannot be opened\n");
-        return;
-    }
-    let mut buffer = [0u8; 60004];
-    let got = io::read_full(file, &mut buffer);
-    libc::close(file);
-    printer::replay(&buffer[..got]);
+// The file of this name. A path is text, so a name that is none cannot be opened.
+fn opened<R: Files>(files: &R, name: &[u8]) -> Option<R::File> {
+    let path = str::from_utf8(name).ok()?;
+    File::open(files, path).ok()
 }
 
-fn main() {
-    let count = os::arg_count();
-    let mut i: usize = 1;
-    while i < count {
-        replay_argument(i);
-        i += 1;
+// The name, and what its file prints.
+fn replay_file(rt: &(impl Files + Print), name: &[u8]) -> io::Result<()> {
+    let mut out = io::writer(rt);
+    rt.write_all(name)?;
+    rt.println("")?;
+    let Some(mut file) = opened(rt, name) else {
+        return rt.println("cannot be opened");
+    };
+    printer::replay_from(&mut file, &mut out)?;
+    Ok(())
+}
+
+// The files that the arguments name. A name of more than 100 bytes stands as an empty one, which no file has.
+fn main(rt: HostRuntime) -> io::Result<()> {
+    let mut name = [0u8; 100];
+    for i in 1..usize::MAX {
+        let n = match rt.arg(i, &mut name) {
+            Ok(n) => n,
+            Err(FillError::TooLong) => 0,
+            Err(FillError::NotPresent) => break,
+        };
+        replay_file(&rt, &name[..n])?;
     }
+    Ok(())
 }
