@@ -142,14 +142,12 @@ pub fn worker(a: Worker, b: Worker) -> bool {
     if a.count != b.count {
         return false;
     }
-    let mut i: usize = 0;
-    while i < 8 {
+    for i in 0..8 {
         let p = ah[i];
         let q = bh[i];
         if packed(0, p.prev, p.del) != packed(0, q.prev, q.del) {
             return false;
         }
-        i += 1;
     }
     equal(of_line(al), of_line(bl))
 }
@@ -177,23 +175,13 @@ pub fn catalogue(a: Catalogue, b: Catalogue) -> bool {
     let br = b.rows;
     let aw = a.workers;
     let bw = b.workers;
-    let mut i: usize = 0;
-    while i < 128 {
-        let x = ar[i];
-        let y = br[i];
-        if equal(of_row(x), of_row(y)) {
-            i += 1;
-        } else {
+    for i in 0..128 {
+        if !equal(of_row(ar[i]), of_row(br[i])) {
             return false;
         }
     }
-    let mut j: usize = 0;
-    while j < 8 {
-        let p = aw[j];
-        let q = bw[j];
-        if worker(p, q) {
-            j += 1;
-        } else {
+    for j in 0..8 {
+        if !worker(aw[j], bw[j]) {
             return false;
         }
     }

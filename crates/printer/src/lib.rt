@@ -1,25 +1,36 @@
-// What a schedule file prints, written to a writer: for the program and for the test program over all schedules. Which bytes these are is
-// proved in the crate `schedule`, line by line; here it is shown that a writer gets them, one line after another.
+// What a schedule file prints, written to a writer: for the program and for the test program over all schedules. The crate `schedule` has
+// the lines; here it is shown that a writer whose bytes are known gets every byte that the model prints for the file, and no other.
 
 #![tactic(auto)]
 
-ghost use Rattle.std.specs.Prelude.{◌≡◌, IfOk};
-ghost use Rattle.model.specs.Schedule.{file_verdict};
+mod input;
 
+ghost use Rattle.std.specs.Prelude.{◌≡◌, IfSome, IfOk, OnOk};
+ghost use Rattle.std.specs.Io.KnownBytes.{Appends};
+ghost use Rattle.model.specs.Schedule.{file_verdict};
+ghost use Rattle.model.specs.Printed.{printed};
+ghost use Rattle.schedule.specs.Shown.{shown};
+ghost use Rattle.printer.specs.Written.{WritesRun};
+
+use input::read_full;
 use model::Verdict;
 use schedule::{Run, Text};
 use std::io;
 use std::io::{Read, Write};
 
 // The bytes of a line.
-fn show<W: Write>(out: &mut W, t: Text) -> io::Result<()> {
+fn show<W: Write>(out: &mut W, t: Text) -> io::Result<()>
+    ensures { OnOk result (Appends (W.contents out.old) (W.contents out.new) (shown t)) }
+{
     let bytes = t.bytes;
     let len = t.len.min(48);
     out.write_all(&bytes[..len])
 }
 
 // Each event, one after another, and the last line.
-fn run_events<W: Write>(out: &mut W, file: &[u8]) -> io::Result<()> {
+fn run_events<W: Write>(out: &mut W, file: &[u8]) -> io::Result<()>
+    ensures { OnOk result (WritesRun (W.contents out.old) (W.contents out.new) file.now) }
+{
     let mut run = Run::start();
     while run.at < file.len() {
         let event = schedule::next_event(file, run);
@@ -29,9 +40,10 @@ fn run_events<W: Write>(out: &mut W, file: &[u8]) -> io::Result<()> {
     show(out, schedule::last_line(run.state))
 }
 
-// Prints all that the file prints, and answers whether it was refused.
+// Prints all that the file prints, and answers whether it was refused. The only error is that of a write, which leaves the rest unwritten.
 pub fn replay<W: Write>(out: &mut W, file: &[u8]) -> io::Result<Verdict>
-    ensures { IfOk result (λ verdict. verdict ≡ file_verdict file.now) }
+    ensures verdict { IfOk result (λ verdict. verdict ≡ file_verdict file.now) }
+    ensures written { OnOk result (Appends (W.contents out.old) (W.contents out.new) (printed file.now)) }
 {
     let verdict = schedule_file::check(file);
     match verdict {
@@ -44,22 +56,12 @@ pub fn replay<W: Write>(out: &mut W, file: &[u8]) -> io::Result<Verdict>
     Ok(verdict)
 }
 
-// Reads until the buffer is full or the input ends, and answers how many bytes were read.
-fn read_full<R: Read>(input: &mut R, buffer: &mut [u8]) -> io::Result<usize> {
-    let mut done = 0;
-    while done < buffer.len() {
-        let n = input.read(&mut buffer[done..])?;
-        if n == 0 {
-            break;
-        }
-        done += n;
-    }
-    Ok(done)
-}
-
-// The same for the file that is read from this input, to its end. The largest file has 60,003 bytes; one byte more is read, so that a
-// longer input is refused and not cut.
-pub fn replay_from<R: Read, W: Write>(input: &mut R, out: &mut W) -> io::Result<Verdict> {
+// The same of the file that this input gives, to its end. The largest file has 60,003 bytes; one byte more is read, so that a longer
+// input is refused and not cut. The only errors are those of a read, before anything is written, and of a write.
+pub fn replay_from<R: Read, W: Write>(input: &mut R, out: &mut W) -> io::Result<Verdict>
+    ensures verdict { IfOk result (λ verdict. IfSome (R.remaining input.old) (λ file. verdict ≡ file_verdict file)) }
+    ensures written { OnOk result (IfSome (R.remaining input.old) (λ file. Appends (W.contents out.old) (W.contents out.new) (printed file))) }
+{
     let mut buffer = [0u8; 60004];
     let n = read_full(input, &mut buffer)?;
     replay(out, &buffer[..n])

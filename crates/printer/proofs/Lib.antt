@@ -1,0 +1,2 @@
+pub mod OnTheWay
+pub mod Whole
