@@ -29,6 +29,7 @@ fn is_free(s: Standing) -> bool
 }
 
 // The lowest free row, 128 if there is none.
+#[tactic(auto, unfolding(model::specs::Insert::lowest_free))]
 fn lowest_free(state: Catalogue) -> u8
     ensures { result ≡ lowest_free state.rows }
 {
@@ -48,6 +49,7 @@ fn lowest_free(state: Catalogue) -> u8
 // ---- The worker after a line ----
 
 // The slot of a popped help becomes zero.
+#[tactic(auto, unfolding(model::specs::Step::stacked, model::specs::Step::ninth_help))]
 fn stacked(k: Worker, line: Line, stack: Stack) -> Worker
     requires { ninth_help k.count stack ≡ false }
     ensures { result ≡ stacked k line stack }
@@ -77,6 +79,7 @@ fn stacked(k: Worker, line: Line, stack: Stack) -> Worker
 }
 
 // On finishing, all other registers of the worker become zero.
+#[tactic(auto, unfolding(model::specs::Step::worker_after))]
 pub fn worker_after(k: Worker, e: Effect) -> Worker
     requires { ninth_help k.count e.stack ≡ false }
     ensures { result ≡ worker_after k e }
@@ -92,6 +95,7 @@ pub fn worker_after(k: Worker, e: Effect) -> Worker
 // ---- Step ----
 
 // What the worker's line does, given the rows that it reads and, if it takes one, the lowest free row.
+#[tactic(auto, unfolding(model::specs::Step::effect_of))]
 pub fn effect_on(k: Worker, me: u8, first: Row, second: Row, free: u8) -> Effect
     ensures { (rows : List Row) → length rows ≡ 128 → row_at rows (first_row k.line) ≡ first → row_at rows (second_row k.line first) ≡ second → (takes_row k.line ≡ true → free ≡ lowest_free rows) → result ≡ effect_of rows me k }
 {
@@ -103,6 +107,7 @@ pub fn effect_on(k: Worker, me: u8, first: Row, second: Row, free: u8) -> Effect
 
 // A step of a worker of a state that is known to be well formed: the rows that its line reads are fetched, the line acts on them,
 // and its effect is stored in place.
+#[tactic(auto, unfolding(model::specs::Step::written))]
 pub fn step_worker(state: Catalogue, w: u8) -> Stepped
     requires { w < 8 }
     ensures { result ≡ step_worker state w }
@@ -173,6 +178,7 @@ pub fn step_worker(state: Catalogue, w: u8) -> Stepped
 }
 
 // Step, refusals 1, 4, 3, 5.
+#[tactic(auto, unfolding(model::specs::Step::step))]
 pub fn step(state: Catalogue, worker: u32) -> Stepped
     ensures { result ≡ step state worker }
 {
@@ -194,6 +200,7 @@ pub fn step(state: Catalogue, worker: u32) -> Stepped
 // ---- Submit ----
 
 // Submit, refusals 1, 4, 6, 2.
+#[tactic(auto, unfolding(model::specs::Step::submit))]
 pub fn submit(state: Catalogue, worker: u32, code: u32, key: u32, element: u32) -> Stepped
     ensures { result ≡ submit state worker code key element }
 {

@@ -62,6 +62,7 @@ fn turn_from(state: Catalogue, w: u8, budget: u32) -> Turned
 }
 
 // Turn, refusals 1, 11, 4, 3. The lent record stands for the worker's in the checks and in the state returned.
+#[tactic(auto, unfolding(model::specs::Turn::turn, model::specs::Turn::turn_of))]
 pub fn turn(state: Catalogue, worker: u32, budget: u32, lent: Worker) -> Turned
     ensures { result ≡ turn state worker budget lent }
 {

@@ -26,6 +26,7 @@ fn with_backlink(row: Row, prev: u8) -> Row
 }
 
 // HelpFlagged, line 1.
+#[tactic(auto, unfolding(model::specs::HelpFlagged::help_flagged_1))]
 fn help_flagged_1(f: HelpFrame, row: Row) -> Effect
     ensures { (rows : List Row) → row_at rows f.del ≡ row → result ≡ help_flagged_1 rows f }
 {
@@ -36,6 +37,7 @@ fn help_flagged_1(f: HelpFrame, row: Row) -> Effect
 }
 
 // HelpFlagged, lines 2 and 3.
+#[tactic(auto, unfolding(model::specs::HelpFlagged::help_flagged_2))]
 fn help_flagged_2(f: HelpFrame, row: Row) -> Effect
     ensures { (rows : List Row) → row_at rows f.del ≡ row → result ≡ help_flagged_2 rows f }
 {
@@ -46,6 +48,7 @@ fn help_flagged_2(f: HelpFrame, row: Row) -> Effect
 }
 
 // TryMark, line 2.
+#[tactic(auto, unfolding(model::specs::HelpFlagged::try_mark_2))]
 fn try_mark_2(f: HelpFrame, row: Row) -> Effect
     ensures { (rows : List Row) → row_at rows f.del ≡ row → result ≡ try_mark_2 rows f }
 {
@@ -58,6 +61,7 @@ fn try_mark_2(f: HelpFrame, row: Row) -> Effect
 }
 
 // TryMark, lines 3 to 5.
+#[tactic(auto, unfolding(model::specs::HelpFlagged::try_mark_3))]
 fn try_mark_3(f: HelpFrame, row: Row, right: u8) -> Effect
     ensures { (rows : List Row) → row_at rows f.del ≡ row → result ≡ try_mark_3 rows f right }
 {
@@ -83,6 +87,7 @@ fn try_mark_3(f: HelpFrame, row: Row, right: u8) -> Effect
 }
 
 // TryMark, line 6.
+#[tactic(auto, unfolding(model::specs::HelpFlagged::try_mark_6))]
 fn try_mark_6(f: HelpFrame, row: Row) -> Effect
     ensures { (rows : List Row) → row_at rows f.del ≡ row → result ≡ try_mark_6 rows f }
 {
@@ -104,6 +109,7 @@ fn return_row(prev: u8, caller: HelpCaller) -> u8
 }
 
 // The outermost HelpFlagged has returned.
+#[tactic(auto, unfolding(model::specs::HelpFlagged::help_flagged_returns))]
 fn help_flagged_returns(key: u32, element: u32, prev: u8, caller: HelpCaller, removed: Row) -> Line
     ensures { (rows : List Row) → row_at rows (return_row prev caller) ≡ removed → result ≡ help_flagged_returns rows key element caller }
 {
@@ -118,6 +124,7 @@ fn help_flagged_returns(key: u32, element: u32, prev: u8, caller: HelpCaller, re
 }
 
 // HelpFlagged's line 4, the second access of its HelpMarked, and the return. `count` helps are pending, the last of them `last`.
+#[tactic(auto, unfolding(model::specs::HelpFlagged::help_flagged_4_help_marked_2))]
 fn help_flagged_4_help_marked_2(
     count: u8,
     last: Pending,
@@ -170,6 +177,7 @@ pub fn help_second(f: HelpFrame) -> u8
 }
 
 // Which function belongs to which line.
+#[tactic(auto, unfolding(model::specs::HelpFlagged::help_line))]
 pub fn help_line(
     count: u8,
     last: Pending,

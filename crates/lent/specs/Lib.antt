@@ -1,4 +1,3 @@
 pub mod Walk
-pub mod Finish
 pub mod Result
 pub mod OneOutcome

@@ -59,6 +59,7 @@ pub fn takes_row(line: Line) -> bool
 }
 
 // What the line of worker `me` does. `free` is the lowest free row if the line takes it; `count` helps are pending, the last `last`.
+#[tactic(auto, unfolding(model::specs::Step::line_effect))]
 pub fn act(
     first: Row,
     second: Row,

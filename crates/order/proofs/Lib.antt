@@ -1,4 +1,4 @@
--- The statement: Demand. Its proof: OrderTheorem. From the one to the other in five parts.
+-- The statement: Demand, in specs/. Its proof: OrderTheorem. From the one to the other in five parts.
 
 -- Numbers and lists
 pub mod Compared

@@ -161,6 +161,7 @@ module _ {top : ℕ} {start : Catalogue} {calls : List Call} (ready : Ready top 
   answer_links : (w t u : ℕ) (R' : Table) (y : ℕ) (o : Operation) → Answered w (TableAt ready) t u R' y o Added
       → (k : ℕ) × (x : ℕ) × LinksRow w (TableAt ready u) R' k x
   answer_links w t u R' y (insert k x) (is_added h) = (k, x, h)
+  answer_links w t u R' y _ other = elim other [ ]
 
   ends_link : (s w code key element T : ℕ) (e : Ends ready s w code key element T Added)
       → (k : ℕ) × (x : ℕ) × LinksRow w (TableAt ready T) (TableAt ready (suc T)) k x

@@ -115,6 +115,7 @@ module _ {top : ℕ} {start : Catalogue} {calls : List Call} (ready : Ready top 
     kind_of (delete k) (Removed e) (is_removed h) = removes e refl h
     kind_of (delete k) Absent (none_removed no_row h) =
         reads_only refl (lacks_reads s f w accepts k _ _ (λ m is. no_delete_agrees m k is) h)
+    kind_of _ _ other = elim other [ ]
 
   pub kind : (s w code key element f : ℕ) (a : Answer) → Ends ready s w code key element f a → Kind s w f (operation code key element) a
   kind s w code key element f a e = kind_of s w f e.finished.step (operation code key element) a e.answered

@@ -95,6 +95,7 @@ module _ {top : ℕ} {start : Catalogue} {calls : List Call} (ready : Ready top 
       → (e : ℕ) × (a ≡ Removed e) × RemovesRow (TableAt ready u) y e
   answer_removed w t u R' y k Absent some (none_removed no_row h) = absurd (some no_row)
   answer_removed w t u R' y k (Removed e) some (is_removed h) = (e, refl, h)
+  answer_removed w t u R' y k _ some other = elim other [ ]
 
   -- a delete that removes row y ends with Removed and the element of y
   pub removal_answer : (s w code key element f y : ℕ) (a : Answer) → Ends ready s w code key element f a → removed_at ready f w ≡ y

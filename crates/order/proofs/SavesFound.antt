@@ -178,6 +178,7 @@ module _ {top : ℕ} {start : Catalogue} {calls : List Call} (ready : Ready top 
       let at = map_lacks (structure_at ready x.time) (is_map_at ready x.time) k x.lacks in
       let held = holds_from x.time (omega (arith, x.after)) x.before in
       contradiction (cc)
+  found_with v q R' removed _ later other = elim other [ ]
 
   pub found_after_added : (q v x : ℕ) (a : Answer) → Request start calls q v 1 k x → f < q → Finished start calls q v h a → a ≡ Found e
   found_after_added q v x a asked later ends_so =

@@ -14,6 +14,7 @@ use model::{Row, Standing, Succ, Write, free_row};
 
 // ---- A row from its words ----
 
+#[tactic(auto, unfolding(model::specs::Packed::succ_from))]
 fn succ_from(word: u32) -> Succ
     ensures { result ≡ succ_from word }
 {
@@ -24,6 +25,7 @@ fn succ_from(word: u32) -> Succ
     }
 }
 
+#[tactic(auto, unfolding(model::specs::Packed::standing_from))]
 fn standing_from(number: u32) -> Standing
     ensures { result ≡ standing_from number }
 {
@@ -36,6 +38,7 @@ fn standing_from(number: u32) -> Standing
     Standing::Held(((number - 2) % 256) as u8)
 }
 
+#[tactic(auto, unfolding(model::specs::Packed::row_from))]
 fn row_from(key: u32, element: u32, succ: u32, rest: u32) -> Row
     ensures { result ≡ row_from key element succ rest }
 {
@@ -68,6 +71,7 @@ fn bit(b: bool) -> u32
     if b { 1 } else { 0 }
 }
 
+#[tactic(auto, unfolding(model::specs::Packed::succ_word))]
 fn succ_word(succ: Succ) -> u32
     ensures { result ≡ succ_word succ }
 {
@@ -85,6 +89,7 @@ fn standing_number(s: Standing) -> u32
 }
 
 // Every row of the code can be packed: its numbers are bytes.
+#[tactic(auto, unfolding(model::specs::Packed::rest_word))]
 fn rest_word(row: Row) -> u32
     ensures { (result ≡ rest_word row) × Bytes row }
 {
@@ -93,6 +98,7 @@ fn rest_word(row: Row) -> u32
 }
 
 // Stores row i; past the last nothing is stored.
+#[tactic(auto, unfolding(packing::specs::Stored::stored_row))]
 pub fn store_row(words: &mut [u32], i: u8, row: Row)
     requires { length words.old ≡ 512 }
     ensures { (words.new ≡ stored_row words.old i row) × Bytes row }
@@ -109,6 +115,7 @@ pub fn store_row(words: &mut [u32], i: u8, row: Row)
 }
 
 // The rows that a line writes.
+#[tactic(auto, unfolding(packing::specs::Stored::stored))]
 pub fn store(words: &mut [u32], write: Write)
     requires { length words.old ≡ 512 }
     ensures { words.new ≡ stored words.old write }
@@ -126,6 +133,7 @@ pub fn store(words: &mut [u32], write: Write)
 // ---- Tests ----
 
 // Whether these are the last two words of a row: packing what they are read as gives them back.
+#[tactic(auto, unfolding(model::specs::Packed::packs_row))]
 pub fn packs_row(succ: u32, rest: u32) -> bool
     ensures { result ≡ packs_row succ rest }
 {

@@ -1,7 +1,6 @@
 -- A row and its words: which rows can be packed, that packing one and reading it again gives the row, and which words are a row's.
-use Rattle.std.specs.Prelude.{if◌then◌else◌, ℕ, zero, suc, ◌+◌, ◌-◌, ◌*◌, ◌/◌, ◌%◌, ◌<◌, ◌≡◌, refl, Bool, true, false, ◌&&◌, eqb}
-use Rattle.std.proofs.Common.{ap, sym, ◌∙◌, arith, eqb-true, eq-eqb, ne_eqb}
-use Rattle.model.specs.State.{succ_of}
+use Rattle.std.specs.Prelude.{ℕ, ◌+◌, ◌-◌, ◌*◌, ◌/◌, ◌%◌, ◌<◌, ◌≡◌, refl, Bool, true, false, eqb}
+use Rattle.std.proofs.Common.{ap, arith, eqb-true, eq-eqb, ne_eqb}
 use Rattle.model.specs.Packed.{bit, succ_word, standing_number, rest_word, succ_from, standing_from, row_from, packs_row}
 use Rattle.model.proofs.Choices.{if_known}
 use Rattle.model.specs.declared.Row.{Row}

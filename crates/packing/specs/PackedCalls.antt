@@ -1,6 +1,6 @@
 -- Submit and step on packed rows: where the words pack the rows of a state, a call gives the packing of what it gives by value, refusals
 -- too; where they pack no rows, or a state that is not well formed, it is refused with 1 or 4; and what is refused leaves every word.
-use Rattle.std.specs.Prelude.{if◌then◌else◌, ℕ, ◌≡◌, Bool, not, ◌⊎◌, List, length}
+use Rattle.std.specs.Prelude.{if◌then◌else◌, ℕ, ◌≡◌, Bool, List, length}
 use Rattle.std.proofs.Math.Path.{refl, ap}
 use Rattle.std.proofs.Common.{sym, ◌∙◌, eq-eqb}
 use Rattle.std.proofs.Math.Bool.{true, false}
@@ -131,7 +131,7 @@ module _ (words : List ℕ) (workers : List Worker) where
 
   -- ---- Between two calls ----
 
-  -- The words and workers are the packing of a well_formed_holds state, and they still are after any call.
+  -- The words and workers are the packing of a well-formed state, and they still are after any call.
   pub packed_kept : Sized (state_of words workers) → packed_well words workers ≡ true → (x : Call)
       → let s = packed_call words workers x in packed_well s.words s.called.workers ≡ true
   packed_kept sized well x =

@@ -1,9 +1,9 @@
 -- Tables of rows and of words: packing and reading undo each other, and the test `packs_rows` tells exactly the packings of 128 rows.
-use Rattle.std.specs.Prelude.{if◌then◌else◌, ℕ, zero, suc, ◌+◌, ◌*◌, ◌≡◌, refl, Bool, true, false, ◌&&◌, List, [], ◌∷◌, eqb}
+use Rattle.std.specs.Prelude.{if◌then◌else◌, ℕ, zero, suc, ◌*◌, ◌≡◌, refl, Bool, true, false, List, [], ◌∷◌, eqb}
 use Rattle.std.proofs.Math.Path.{ap}
 use Rattle.std.proofs.Common.{sym, ◌∙◌, arith, eqb-true, eq-eqb}
 use Rattle.std.proofs.Math.ListN.{length}
-use Rattle.model.specs.Packed.{succ_word, rest_word, packed, row_from, unpacked, packs_row, packs_each, packs_rows}
+use Rattle.model.specs.Packed.{packed, row_from, unpacked, packs_row, packs_each, packs_rows}
 use Rattle.model.specs.declared.Row.{Row}
 use Rattle.kept.specs.Conditions.{clash, both, both_hold}
 use Rattle.packing.specs.OneRow.{Bytes, row_back, row_bytes, bytes_packs, packs_told}

@@ -1,6 +1,6 @@
--- The words of a well_formed_holds state: its rows are rows of bytes, so that packing loses nothing of it; and which words make a state not
+-- The words of a well-formed state: its rows are rows of bytes, so that packing loses nothing of it; and which words make a state not
 -- well formed.
-use Rattle.std.specs.Prelude.{if◌then◌else◌, ℕ, zero, suc, ◌+◌, ◌*◌, ◌/◌, ◌%◌, ◌≤◌, ◌<◌, ◌≡◌, refl, Bool, not, ◌&&◌, ◌⊎◌, ltb}
+use Rattle.std.specs.Prelude.{if◌then◌else◌, ℕ, suc, ◌+◌, ◌*◌, ◌/◌, ◌%◌, ◌≤◌, ◌<◌, ◌≡◌, refl, Bool, not, ◌&&◌, ◌⊎◌}
 use Rattle.std.proofs.Math.Path.{ap, sym}
 use Rattle.std.proofs.Common.{◌∙◌, inl, inr, arith, ltb-true}
 use Rattle.std.proofs.Math.Bool.{true, false}
@@ -18,10 +18,10 @@ use Rattle.model.specs.declared.Catalogue.{Catalogue}
 use Rattle.kept.specs.Conditions.{clash, bool_cases, both, every}
 use Rattle.kept.specs.WellFormedFacts.{RowWell, row_facts}
 use Rattle.packing.specs.OneRow.{Bytes}
-use Rattle.packing.specs.Tables.{AllBytes, PackingOf, PacksRows, packs_rows_lem, rows_number, packing_told, packing_once}
+use Rattle.packing.specs.Tables.{AllBytes, PackingOf, packs_rows_lem, rows_number, packing_told, packing_once}
 use Rattle.packing.specs.Stored.{word_at, packed_at}
 
--- ---- The rows of a well_formed_holds state ----
+-- ---- The rows of a well-formed state ----
 
 holder_below : (s : Standing) → ((v : ℕ) → s ≡ Held v → v < 8) → standing_number s < 10
 holder_below Free h = omega arith
@@ -107,7 +107,7 @@ module _ (words : List ℕ) (workers : List Worker) (i : ℕ) (inside : i < 128)
     pub backlink : rest_word_at words i % 256 < 128
     pub standing : rest_word_at words i / 256 < 10
 
-  -- the words of each row of a well_formed_holds state
+  -- the words of each row of a well-formed state
   pub good_words : packed_well words workers ≡ true → GoodWords
   unfolding well_formed
   good_words h =

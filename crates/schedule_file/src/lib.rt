@@ -22,6 +22,7 @@ fn byte_at(bytes: &[u8], i: usize) -> u32
 }
 
 // Two bytes and four, big-endian.
+#[tactic(auto, unfolding(model::specs::Schedule::two_bytes))]
 fn two_bytes(bytes: &[u8], i: usize) -> u32
     requires { i < 16 }
     ensures { (result ≡ two_bytes bytes.now i) × (result < 65536) }
@@ -29,6 +30,7 @@ fn two_bytes(bytes: &[u8], i: usize) -> u32
     byte_at(bytes, i) * 256 + byte_at(bytes, i + 1)
 }
 
+#[tactic(auto, unfolding(model::specs::Schedule::four_bytes))]
 fn four_bytes(bytes: &[u8], i: usize) -> u32
     requires { i < 8 }
     ensures { result ≡ four_bytes bytes.now i }
@@ -38,6 +40,7 @@ fn four_bytes(bytes: &[u8], i: usize) -> u32
 
 // ---- Whether the file is refused ----
 
+#[tactic(auto, unfolding(model::specs::Schedule::record_fits))]
 fn record_fits(n: u8, rest: &[u8]) -> bool
     ensures { result ≡ record_fits n rest.now }
 {
@@ -67,6 +70,7 @@ fn records_fit(file: &[u8]) -> bool
 }
 
 // The whole file is checked before its first event. Refusals 8 (short), 7, 10, 8 (length), 9.
+#[tactic(auto, unfolding(model::specs::Schedule::file_verdict, crate::specs::Records::fits_from))]
 pub fn check(file: &[u8]) -> Verdict
     ensures { result ≡ file_verdict file.now }
 {
@@ -93,6 +97,7 @@ pub fn check(file: &[u8]) -> Verdict
 
 // ---- The call of a record ----
 
+#[tactic(auto, unfolding(model::specs::Schedule::record_call))]
 pub fn record_call(n: u8, rest: &[u8]) -> Call
     ensures { result ≡ record_call n rest.now }
 {

@@ -16,6 +16,7 @@ use model::{Answer, Effect, Line, Row, SearchCaller, SearchFrame, SearchLine};
 use updates::{delete_2, insert_2, insert_20, try_flag_12};
 
 // Search, lines 2 to 5.
+#[tactic(auto, unfolding(model::specs::SearchFrom::search_2))]
 fn search_2(key: u32, curr: u8, here: Row) -> Effect
     ensures { (rows : List Row) → row_at rows curr ≡ here → result ≡ search_2 rows key curr }
 {
@@ -39,6 +40,7 @@ fn strict(caller: SearchCaller) -> bool
 }
 
 // The test of lines 2 and 7: next.key ≤ k.
+#[tactic(auto, unfolding(model::specs::SearchFrom::reaches))]
 fn reaches(f: SearchFrame, next: u8, ahead: Row) -> bool
     ensures { (rows : List Row) → row_at rows next ≡ ahead → result ≡ reaches rows f next }
 {
@@ -50,6 +52,7 @@ fn reaches(f: SearchFrame, next: u8, ahead: Row) -> bool
 }
 
 // Line 10 returns (curr, next) to the caller.
+#[tactic(auto, unfolding(model::specs::SearchFrom::search_from_returns))]
 fn search_from_returns(
     key: u32,
     element: u32,
@@ -71,6 +74,7 @@ fn search_from_returns(
 }
 
 // Line 10.
+#[tactic(auto, unfolding(model::specs::SearchFrom::search_from_10))]
 fn search_from_10(f: SearchFrame, here: Row, next: u8, ahead: Row) -> Effect
     ensures { (rows : List Row) → row_at rows f.curr ≡ here → row_at rows next ≡ ahead → result ≡ search_from_10 rows f next }
 {
@@ -79,6 +83,7 @@ fn search_from_10(f: SearchFrame, here: Row, next: u8, ahead: Row) -> Effect
 }
 
 // Line 2.
+#[tactic(auto, unfolding(model::specs::SearchFrom::search_from_2))]
 fn search_from_2(f: SearchFrame, here: Row, next: u8, ahead: Row) -> Effect
     ensures { (rows : List Row) → row_at rows f.curr ≡ here → row_at rows next ≡ ahead → result ≡ search_from_2 rows f next }
 {
@@ -89,6 +94,7 @@ fn search_from_2(f: SearchFrame, here: Row, next: u8, ahead: Row) -> Effect
 }
 
 // Lines 7 and 8.
+#[tactic(auto, unfolding(model::specs::SearchFrom::search_from_7))]
 fn search_from_7(f: SearchFrame, here: Row, next: u8, ahead: Row) -> Effect
     ensures { (rows : List Row) → row_at rows f.curr ≡ here → row_at rows next ≡ ahead → result ≡ search_from_7 rows f next }
 {
@@ -101,6 +107,7 @@ fn search_from_7(f: SearchFrame, here: Row, next: u8, ahead: Row) -> Effect
 }
 
 // Line 1.
+#[tactic(auto, unfolding(model::specs::SearchFrom::search_from_1))]
 fn search_from_1(f: SearchFrame, here: Row, ahead: Row) -> Effect
     ensures { (rows : List Row) → row_at rows f.curr ≡ here → row_at rows here.succ.right ≡ ahead → result ≡ search_from_1 rows f }
 {
@@ -108,6 +115,7 @@ fn search_from_1(f: SearchFrame, here: Row, ahead: Row) -> Effect
 }
 
 // Line 3, first read.
+#[tactic(auto, unfolding(model::specs::SearchFrom::search_from_3_next_mark))]
 fn search_from_3_next_mark(f: SearchFrame, here: Row, next: u8, ahead: Row) -> Effect
     ensures { (rows : List Row) → row_at rows f.curr ≡ here → row_at rows next ≡ ahead → result ≡ search_from_3_next_mark rows f next }
 {
@@ -118,6 +126,7 @@ fn search_from_3_next_mark(f: SearchFrame, here: Row, next: u8, ahead: Row) -> E
 }
 
 // Line 3, second read.
+#[tactic(auto, unfolding(model::specs::SearchFrom::search_from_3_curr_mark))]
 fn search_from_3_curr_mark(f: SearchFrame, here: Row, next: u8) -> Effect
     ensures { (rows : List Row) → row_at rows f.curr ≡ here → result ≡ search_from_3_curr_mark rows f next }
 {
@@ -128,6 +137,7 @@ fn search_from_3_curr_mark(f: SearchFrame, here: Row, next: u8) -> Effect
 }
 
 // Line 3, third read.
+#[tactic(auto, unfolding(model::specs::SearchFrom::search_from_3_curr_right))]
 fn search_from_3_curr_right(f: SearchFrame, here: Row, next: u8, ahead: Row) -> Effect
     ensures { (rows : List Row) → row_at rows f.curr ≡ here → row_at rows next ≡ ahead → result ≡ search_from_3_curr_right rows f next }
 {
@@ -138,6 +148,7 @@ fn search_from_3_curr_right(f: SearchFrame, here: Row, next: u8, ahead: Row) -> 
 }
 
 // Line 4.
+#[tactic(auto, unfolding(model::specs::SearchFrom::search_from_4))]
 fn search_from_4(f: SearchFrame, here: Row, next: u8) -> Effect
     ensures { (rows : List Row) → row_at rows f.curr ≡ here → result ≡ search_from_4 rows f next }
 {
@@ -148,6 +159,7 @@ fn search_from_4(f: SearchFrame, here: Row, next: u8) -> Effect
 }
 
 // Line 6.
+#[tactic(auto, unfolding(model::specs::SearchFrom::search_from_6))]
 fn search_from_6(f: SearchFrame, here: Row) -> Effect
     ensures { (rows : List Row) → row_at rows f.curr ≡ here → result ≡ search_from_6 rows f }
 {
@@ -160,6 +172,7 @@ fn search_from_6(f: SearchFrame, here: Row) -> Effect
 }
 
 // Line 9.
+#[tactic(auto, unfolding(model::specs::SearchFrom::search_from_9))]
 fn search_from_9(f: SearchFrame, here: Row, ahead: Row) -> Effect
     ensures { (rows : List Row) → row_at rows f.curr ≡ here → row_at rows here.succ.right ≡ ahead → result ≡ search_from_9 rows f }
 {
@@ -201,6 +214,7 @@ pub fn search_second(f: SearchFrame, line: SearchLine, first: Row) -> u8
 }
 
 // Which function belongs to which line. The two accesses of line 5 are HelpMarked's.
+#[tactic(auto, unfolding(model::specs::SearchFrom::search_line))]
 pub fn search_line(f: SearchFrame, line: SearchLine, first: Row, second: Row) -> Effect
     ensures { (rows : List Row) → row_at rows (search_first f line) ≡ first → row_at rows (search_second f line first) ≡ second → result ≡ search_line rows f line }
 {

@@ -12,6 +12,7 @@ use accesses::{
 use model::{Answer, Effect, FlagFrame, FlagLine, HelpCaller, Line, Row, SearchCaller, Succ};
 
 // Delete, lines 2 to 4.
+#[tactic(auto, unfolding(model::specs::Delete::delete_2))]
 pub fn delete_2(key: u32, prev: u8, del: u8, row: Row) -> Effect
     ensures { (rows : List Row) → row_at rows del ≡ row → result ≡ delete_2 rows key prev del }
 {
@@ -38,6 +39,7 @@ fn delete_6(f: FlagFrame, res: bool) -> Line
 }
 
 // Delete, lines 7 to 9.
+#[tactic(auto, unfolding(model::specs::Delete::delete_7))]
 pub fn delete_7(target: u8, row: Row, res: bool) -> Line
     ensures { (rows : List Row) → row_at rows target ≡ row → result ≡ delete_7 rows target res }
 {
@@ -48,6 +50,7 @@ pub fn delete_7(target: u8, row: Row, res: bool) -> Line
 }
 
 // TryFlag, lines 2 and 3.
+#[tactic(auto, unfolding(model::specs::Delete::try_flag_2))]
 fn try_flag_2(f: FlagFrame, row: Row) -> Effect
     ensures { (rows : List Row) → row_at rows f.prev ≡ row → result ≡ try_flag_2 rows f }
 {
@@ -59,6 +62,7 @@ fn try_flag_2(f: FlagFrame, row: Row) -> Effect
 }
 
 // TryFlag, lines 5 to 8.
+#[tactic(auto, unfolding(model::specs::Delete::try_flag_5))]
 fn try_flag_5(f: FlagFrame, res: Succ) -> Line
     ensures { result ≡ try_flag_5 f res }
 {
@@ -72,6 +76,7 @@ fn try_flag_5(f: FlagFrame, res: Succ) -> Line
 }
 
 // TryFlag, line 4.
+#[tactic(auto, unfolding(model::specs::Delete::try_flag_4))]
 fn try_flag_4(f: FlagFrame, row: Row) -> Effect
     ensures { (rows : List Row) → row_at rows f.prev ≡ row → result ≡ try_flag_4 rows f }
 {
@@ -86,6 +91,7 @@ fn try_flag_4(f: FlagFrame, row: Row) -> Effect
 }
 
 // TryFlag, lines 9 and 11.
+#[tactic(auto, unfolding(model::specs::Delete::try_flag_9))]
 fn try_flag_9(f: FlagFrame, row: Row) -> Effect
     ensures { (rows : List Row) → row_at rows f.prev ≡ row → result ≡ try_flag_9 rows f }
 {
@@ -101,6 +107,7 @@ fn try_flag_9(f: FlagFrame, row: Row) -> Effect
 }
 
 // TryFlag, line 10.
+#[tactic(auto, unfolding(model::specs::Delete::try_flag_10))]
 fn try_flag_10(f: FlagFrame, row: Row) -> Effect
     ensures { (rows : List Row) → row_at rows f.prev ≡ row → result ≡ try_flag_10 rows f }
 {
@@ -110,6 +117,7 @@ fn try_flag_10(f: FlagFrame, row: Row) -> Effect
 }
 
 // TryFlag, lines 12 and 13.
+#[tactic(auto, unfolding(model::specs::Delete::try_flag_12))]
 pub fn try_flag_12(key: u32, prev: u8, del: u8, target: u8) -> Effect
     ensures { result ≡ try_flag_12 key prev del target }
 {
@@ -120,6 +128,7 @@ pub fn try_flag_12(key: u32, prev: u8, del: u8, target: u8) -> Effect
 }
 
 // Which function belongs to which line. Every access is to prev.
+#[tactic(auto, unfolding(model::specs::Delete::flag_line))]
 pub fn flag_line(f: FlagFrame, line: FlagLine, first: Row) -> Effect
     ensures { (rows : List Row) → row_at rows f.prev ≡ first → result ≡ flag_line rows f line }
 {

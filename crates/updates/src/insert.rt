@@ -23,6 +23,7 @@ pub fn insert_frame(key: u32, element: u32, prev: u8) -> InsertFrame
 }
 
 // Lines 2 and 3.
+#[tactic(auto, unfolding(model::specs::Insert::insert_2))]
 pub fn insert_2(key: u32, element: u32, prev: u8, row: Row, next: u8) -> Effect
     ensures { (rows : List Row) → row_at rows prev ≡ row → result ≡ insert_2 rows key element prev next }
 {
@@ -36,6 +37,7 @@ pub fn insert_2(key: u32, element: u32, prev: u8, row: Row, next: u8) -> Effect
 }
 
 // Lines 20 to 22.
+#[tactic(auto, unfolding(model::specs::Insert::insert_20))]
 pub fn insert_20(key: u32, element: u32, prev: u8, row: Row, next: u8, new: u8) -> Effect
     ensures { (rows : List Row) → row_at rows prev ≡ row → result ≡ insert_20 rows key element prev next new }
 {
@@ -52,6 +54,7 @@ pub fn insert_20(key: u32, element: u32, prev: u8, row: Row, next: u8, new: u8) 
 }
 
 // Line 4, given the lowest free row.
+#[tactic(auto, unfolding(model::specs::Insert::insert_4))]
 fn insert_4(free: u8, me: u8, f: InsertFrame, next: u8) -> Effect
     ensures { (rows : List Row) → free ≡ lowest_free rows → result ≡ insert_4 rows me f next }
 {
@@ -76,6 +79,7 @@ fn insert_4(free: u8, me: u8, f: InsertFrame, next: u8) -> Effect
 }
 
 // Lines 6 to 8.
+#[tactic(auto, unfolding(model::specs::Insert::insert_6))]
 fn insert_6(f: InsertFrame, row: Row, next: u8, new: u8) -> Effect
     ensures { (rows : List Row) → row_at rows f.prev ≡ row → result ≡ insert_6 rows f next new }
 {
@@ -92,6 +96,7 @@ fn insert_6(f: InsertFrame, row: Row, next: u8, new: u8) -> Effect
 }
 
 // Lines 15 and 16.
+#[tactic(auto, unfolding(model::specs::Insert::insert_15))]
 fn insert_15(f: InsertFrame, new: u8, res: Succ) -> Line
     ensures { result ≡ insert_15 f new res }
 {
@@ -144,6 +149,7 @@ fn pointing_to(prev: u8, row: Row, new: u8, linked: Row) -> Row
 }
 
 // Lines 10 to 13, one step.
+#[tactic(auto, unfolding(model::specs::Insert::insert_10_11))]
 fn insert_10_11(f: InsertFrame, row: Row, next: u8, new: u8, held: Row) -> Effect
     ensures { (rows : List Row) → length rows ≡ 128 → row_at rows f.prev ≡ row → row_at rows new ≡ held → result ≡ insert_10_11 rows f next new }
 {
@@ -170,6 +176,7 @@ pub fn insert_19(key: u32, element: u32, prev: u8, new: u8) -> Line
 }
 
 // Line 17.
+#[tactic(auto, unfolding(model::specs::Insert::insert_17))]
 fn insert_17(f: InsertFrame, row: Row, new: u8) -> Effect
     ensures { (rows : List Row) → row_at rows f.prev ≡ row → result ≡ insert_17 rows f new }
 {
@@ -180,6 +187,7 @@ fn insert_17(f: InsertFrame, row: Row, new: u8) -> Effect
 }
 
 // Line 18.
+#[tactic(auto, unfolding(model::specs::Insert::insert_18))]
 fn insert_18(f: InsertFrame, row: Row, new: u8) -> Effect
     ensures { (rows : List Row) → row_at rows f.prev ≡ row → result ≡ insert_18 rows f new }
 {
@@ -216,6 +224,7 @@ pub fn insert_takes_row(line: InsertLine) -> bool
 }
 
 // Which function belongs to which line.
+#[tactic(auto, unfolding(model::specs::Insert::insert_line))]
 pub fn insert_line(
     free: u8,
     me: u8,

@@ -100,6 +100,7 @@ fn help_line_numbers(line: HelpLine) -> bool
     }
 }
 
+#[tactic(auto, unfolding(model::specs::WellFormed::line_numbers))]
 fn line_numbers(line: Line) -> bool
     ensures { result ≡ line_numbers line }
 {
@@ -240,6 +241,7 @@ fn held_in_help(caller: HelpCaller) -> u8
 }
 
 // The row that an unfinished insert past line 4 names, or 128.
+#[tactic(auto, unfolding(model::specs::WellFormed::held_row))]
 fn held_row(line: Line) -> u8
     ensures { result ≡ held_row line }
 {
@@ -275,6 +277,7 @@ fn holder(s: Standing) -> usize
 }
 
 // `line` is the holder's.
+#[tactic(auto, unfolding(model::specs::WellFormed::holder_names))]
 fn holder_names(i: u8, s: Standing, line: Line) -> bool
     ensures { (workers : List Worker) → (worker_at workers (holder s)).line ≡ line → result ≡ holder_names workers i s }
 {
@@ -301,6 +304,7 @@ fn held_by(w: u8, s: Standing) -> bool
 }
 
 // `named` stands at the row that the line names.
+#[tactic(auto, unfolding(model::specs::WellFormed::named_is_held))]
 fn named_is_held(w: u8, line: Line, named: Row) -> bool
     ensures { (rows : List Row) → row_at rows (held_row line) ≡ named → result ≡ named_is_held rows w line }
 {
@@ -314,6 +318,7 @@ fn named_is_held(w: u8, line: Line, named: Row) -> bool
 // ---- The state ----
 
 // `line` is the holder's.
+#[tactic(auto, unfolding(model::specs::WellFormed::row_well))]
 fn row_well(i: u8, row: Row, line: Line) -> bool
     ensures { (workers : List Worker) → (worker_at workers (holder row.standing)).line ≡ line → result ≡ row_well workers i row }
 {
@@ -329,6 +334,7 @@ fn row_well(i: u8, row: Row, line: Line) -> bool
 }
 
 // `named` stands at the row that the worker's line names.
+#[tactic(auto, unfolding(model::specs::WellFormed::worker_well))]
 fn worker_well(w: u8, k: Worker, named: Row) -> bool
     ensures { (rows : List Row) → row_at rows (held_row k.line) ≡ named → result ≡ worker_well rows w k }
 {
