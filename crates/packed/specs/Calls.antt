@@ -1,16 +1,14 @@
 -- What the code of a call on packed rows needs to know of its definition: one law for each way out.
 use Rattle.std.specs.Prelude.{ℕ, ◌≤◌, ◌<◌, ◌≡◌, refl, true, false, List, set}
-use Rattle.std.proofs.Common.{ap, sym, ◌∙◌, lt-ltb, le-ltb}
-use Rattle.model.specs.State.{worker_at}
+use Rattle.std.proofs.Common.{ap, sym, lt-ltb, le-ltb}
 use Rattle.model.specs.Step.{step, submit, step_worker}
 use Rattle.model.specs.Run.{call}
 use Rattle.model.specs.Printed.{call_worker}
-use Rattle.model.specs.Packed.{packs_rows, state_of, packed_well, OnWords, packed_stepped, refused_on, packed_call}
+use Rattle.model.specs.Packed.{packs_rows, state_of, packed_well, OnWords, packed_stepped, packed_call}
 use Rattle.model.specs.declared.Worker.{Worker}
 use Rattle.model.specs.declared.Called.{Called}
 use Rattle.model.specs.declared.Call.{Call}
 use Rattle.model.specs.declared.Call.TheVariants.{Submit, Step}
-use Rattle.model.specs.declared.Stepped.{Stepped}
 use Rattle.model.specs.declared.Verdict.TheVariants.{Refused}
 use Rattle.model.specs.declared.Refusal.{Refusal}
 use Rattle.model.specs.declared.Refusal.TheVariants.{NoSuchWorker, NotWellFormed}

@@ -1,5 +1,5 @@
 -- What the code of a step on words promises: the model's step, its rows packed. One law for each kind of way out.
-use Rattle.std.specs.Prelude.{ℕ, ◌≡◌, refl, List, set}
+use Rattle.std.specs.Prelude.{ℕ, ◌≡◌, List, set}
 use Rattle.std.proofs.Common.{ap, sym, ◌∙◌}
 use Rattle.std.proofs.lemmas.List.{set-get_or}
 use Rattle.model.specs.State.{worker_at}

@@ -1,6 +1,6 @@
 -- What the loops over whole tables need to know: the words of one row more, and that all are there at the end.
-use Prim.Native.Nat.{ℕ, zero, suc, ◌+◌, ◌*◌, ◌≤◌, ◌<◌}
-use Rattle.std.specs.Prelude.{◌≡◌, refl, Bool, true, false, get_or, set, take, eqb}
+use Prim.Native.Nat.{ℕ, suc, ◌+◌, ◌*◌, ◌≤◌, ◌<◌}
+use Rattle.std.specs.Prelude.{◌≡◌, refl, Bool, true, false, get_or, set, take}
 use Rattle.std.proofs.Common.{ap, sym, ◌∙◌, add-one, drop_of_length-le, take-suc, take-suc-set, take_all, drop-cons, eq-eqb, ne_eqb}
 use mathlib.Core.List.{List, [], ◌∷◌, ◌++◌}
 use native.Mathlib.Omega.{arith}

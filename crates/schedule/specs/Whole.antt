@@ -1,19 +1,11 @@
--- What a whole run prints: the heading, the lines of the events one after another, and the last line are every byte that the model
--- prints for the file, whatever values the functions give back that their contracts allow.
-use Rattle.std.specs.Prelude.{if◌then◌else◌, ◌≡◌, ℕ, zero, suc, ◌+◌, ◌-◌, ◌%◌, ◌^◌, ◌<◌, ◌≤◌, Bool, true, false, not, List, [], ◌∷◌, ◌++◌, length, drop, ◌==◌, nat_lt, refl}
-use Rattle.std.proofs.Common.{ap, ◌∙◌, append_assoc, arith, length-drop, drop_of_length-le, ltb-false, eqb-true}
-use Rattle.std.proofs.lemmas.Bool.{not-false}
-use Rattle.model.specs.Schedule.{stated_length, body, records_fit, byte_at, calls_from, calls_of, file_verdict}
-use Rattle.model.specs.Printed.{heading, last_line, run_text, refused_file, file_text, printed}
-use Rattle.model.specs.declared.Verdict.TheVariants.{Accepted, Refused}
-use Rattle.model.specs.declared.Refusal.{Refusal}
-use Rattle.model.specs.declared.Refusal.TheVariants.{FileVersion, FileLength, FileRecord, FileTooLong}
+-- A whole run: its events one after another, and what their lines show. That these, with the heading and the last line, are the bytes
+-- that the model prints is shown in proofs/Whole.antt.
+use Rattle.std.specs.Prelude.{ℕ, ◌<◌, ◌≤◌, List, [], ◌∷◌, ◌++◌, length}
 use Rattle.schedule.specs.declared.text.Text.{Text}
 use Rattle.schedule.specs.declared.run.Run.{Run}
 use Rattle.schedule.specs.declared.run.Event.{Event}
-use Rattle.schedule.specs.Shown.{shown, Shows}
-use Rattle.schedule_file.specs.Records.{call_at, after, left_at, left_after}
-use Rattle.schedule.specs.Events.{start_run, moved, Happens, line_inside, next_inside}
+use Rattle.schedule.specs.Shown.{shown}
+use Rattle.schedule.specs.Events.{Happens}
 
 -- A run from r to its end, one event after another for as long as a record is left, with the lines of its events.
 pub data Ran (file : List ℕ) : Run → List Text → Run → Type 0 where
@@ -24,64 +16,3 @@ pub data Ran (file : List ℕ) : Run → List Text → Run → Type 0 where
 unfoldable pub all_shown : List Text → List ℕ
 all_shown [] = []
 all_shown (t ∷ texts) = shown t ++ all_shown texts
-
-calls_over : (tries : ℕ) (file : List ℕ) (at : ℕ) → length file ≤ at → calls_from tries (drop at file) ≡ []
-unfolding calls_from
-calls_over zero file at h = refl
-calls_over (suc tries) file at h = rw (drop_of_length-le file h)
-
-calls_step : (tries : ℕ) (file : List ℕ) (at : ℕ) → at < length file
-    → calls_from (suc tries) (drop at file) ≡ call_at file at ∷ calls_from tries (drop (after file at) file)
-unfolding calls_from
-calls_step tries file at h = rw (left_at file at h, left_after file at)
-
--- the tries are as many as the bytes that are left, and the event numbers fit
-ran_prints : {file : List ℕ} {r end : Run} {texts : List Text} → Ran file r texts end → (tries : ℕ) → length file - r.at ≤ tries
-    → r.event + (length file - r.at) < 2 ^ 32
-    → all_shown texts ++ last_line end.state ≡ run_text r.event r.state (calls_from tries (drop r.at file))
-unfolding all_shown run_text
-ran_prints {file} {r} (over past) tries enough fits = rw (calls_over tries file r.at past)
-ran_prints {file} {r} (event inside h rest) zero enough fits = absurd (omega arith)
-ran_prints {file} {r} {end} (event {e = e} {texts = texts} inside h rest) (suc tries) enough fits =
-    let small : (r.event + 1) % 2 ^ 32 ≡ r.event + 1 = omega arith in
-    let stands : e.run ≡ moved file r = h.next ∙ next_inside file r inside in
-    let enough' : length file - e.run.at ≤ tries = rw stands (omega arith) in
-    let fits' : e.run.event + (length file - e.run.at) < 2 ^ 32 = rw stands (omega arith) in
-    append_assoc (shown e.text) (all_shown texts) (last_line end.state)
-    ∙ rw (calls_step tries file r.at inside, ← line_inside file r inside, ← h.prints.shows)
-    (ap (λ (l : List ℕ). shown e.text ++ l) (rw (stands, small) at (ran_prints rest tries enough' fits')))
-
--- A file that is accepted has at most 60,000 bytes of records.
-accepted_short : (file : List ℕ) → file_verdict file ≡ Accepted → length (body file) ≤ 60000
-unfolding file_verdict
-accepted_short file h =
-    let tests = go (nat_lt (length file) 3) (not (byte_at file 0 == 1)) (nat_lt 60000 (stated_length file))
-    (not (stated_length file == length (body file))) (not (records_fit (length (body file)) (body file))) h in
-    omega (arith, ltb-false 60000 (stated_length file) tests.0, eqb-true (stated_length file) (length (body file)) (not-false _ tests.1))
-  where
-    go : (short version long length records : Bool)
-        → (if short then Refused FileLength else if version then Refused FileVersion else if long then Refused FileTooLong
-        else if length then Refused FileLength else if records then Refused FileRecord else Accepted) ≡ Accepted
-        → (long ≡ false) × (length ≡ false)
-    go true version long length records h = absurd (let z : ◌≡◌ {A = ℕ} 0 1 = cc in omega arith)
-    go false true long length records h = absurd (let z : ◌≡◌ {A = ℕ} 0 1 = cc in omega arith)
-    go false false true length records h = absurd (let z : ◌≡◌ {A = ℕ} 0 1 = cc in omega arith)
-    go false false false true records h = absurd (let z : ◌≡◌ {A = ℕ} 0 1 = cc in omega arith)
-    go false false false false records h = (refl, refl)
-
--- All that is printed for a file that is not refused.
-pub run_prints : {file : List ℕ} {end : Run} {texts : List Text} {first last : Text} → file_verdict file ≡ Accepted
-    → Shows heading first → Ran file start_run texts end → Shows (last_line end.state) last
-    → shown first ++ (all_shown texts ++ shown last) ≡ printed file
-unfolding printed file_text calls_of
-run_prints {file} {end} {texts} accepted first ran last =
-    let short : length (body file) ≤ 60000 = accepted_short file accepted in
-    rw (accepted, first.shows, last.shows)
-    (ap (λ (l : List ℕ). heading ++ l)
-    (ran_prints ran (length (body file)) (omega (arith, length-drop 3 file)) (omega (arith, length-drop 3 file))))
-
--- All that is printed for a file that is refused.
-pub refused_prints : (file : List ℕ) {r : Refusal} {only : Text} → file_verdict file ≡ Refused r → Shows (refused_file r) only
-    → shown only ≡ printed file
-unfolding printed file_text
-refused_prints file refused only = rw refused only.shows

@@ -7,6 +7,7 @@ ghost use Rattle.schedule.specs.Rows.{taken_one};
 use model::{Catalogue, Standing};
 
 // 1 for a row that is not free.
+#[tactic(auto, unfolding(crate::specs::Rows::taken_one))]
 fn taken_one(standing: Standing) -> u32
     ensures { (result ≡ taken_one standing) × (result ≤ 1) }
 {
@@ -18,6 +19,7 @@ fn taken_one(standing: Standing) -> u32
 }
 
 // The rows not free among 2 to 127.
+#[tactic(auto, unfolding(model::specs::Count::taken))]
 pub fn taken(state: Catalogue) -> u32
     ensures { result ≡ taken state.rows }
 {

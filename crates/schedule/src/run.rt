@@ -5,12 +5,11 @@ ghost use Rattle.model.specs.Run.{call};
 ghost use Rattle.schedule_file.specs.Records.{call_at};
 ghost use Rattle.schedule.specs.Events.{start_run, Happens};
 
-use crate::lines::event_text;
+use crate::printed::event_text;
 use crate::text::{Text, empty_text};
 use engine::{step, submit};
 use model::{Call, Catalogue, Stepped};
 use schedule_file::record_call;
-use std::num::wrapping_add_u32;
 
 // Where a run stands: the state, the number of the next event, and where its record begins.
 #[derive(Clone, Copy)]
@@ -49,6 +48,7 @@ fn call_at(file: &[u8], at: usize) -> Call
     record_call(file[at], &file[start..])
 }
 
+#[tactic(auto, unfolding(model::specs::Run::call))]
 fn make_call(state: Catalogue, x: Call) -> Stepped
     ensures { result ≡ call state x }
 {
@@ -84,7 +84,7 @@ pub fn next_event(file: &[u8], run: Run) -> Event
     Event {
         run: Run {
             state: after,
-            event: wrapping_add_u32(run.event, 1),
+            event: run.event.wrapping_add(1),
             at: at + 1 + n,
         },
         text: text,

@@ -20,6 +20,7 @@ pub fn empty_text() -> Text
 }
 
 // One byte more.
+#[tactic(auto, unfolding(crate::specs::Shown::pushed))]
 pub fn push(t: Text, b: u8) -> Text
     ensures { result ≡ pushed t b }
 {

@@ -1,0 +1,2 @@
+-- What a whole run prints
+pub mod Whole
