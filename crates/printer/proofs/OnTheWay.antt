@@ -1,5 +1,5 @@
 -- A run on its way: where it stands, and what was written so far.
-use Rattle.std.specs.Prelude.{◌≡◌, ℕ, ◌<◌, ◌≤◌, List, [], ◌∷◌, ◌++◌, length, Result, Ok, Err, OnOk, refl}
+use Rattle.std.specs.Prelude.{◌≡◌, ℕ, ◌<◌, ◌≤◌, List, [], ◌∷◌, ◌++◌, length, Result, Ok, Err, OnOk}
 use Rattle.std.proofs.Common.{sym, ap, ◌∙◌, subst, append_assoc, append-nil}
 use Rattle.std.specs.declared.option.Option.{Option}
 use Rattle.std.specs.Io.KnownBytes.{Appends}
@@ -36,10 +36,10 @@ all_shown_more (l ∷ lines) t = ap (λ (s : List ℕ). shown l ++ s) (all_shown
 pub one_more : (file : List ℕ) (lines : List Text) (r : Run) (e : Event) (a b c : Option (List ℕ)) → ComesTo file lines r a b
     → r.at < length file → Happens file r e → Appends b c (shown e.text) → ComesTo file (lines ++ e.text ∷ []) e.run a c
 one_more file lines r e a b c before inside happens line = record {
-    goes_on = λ end texts h. subst (λ (l : List Text). Ran file start_run l end) (sym (append_assoc lines (e.text ∷ []) texts))
-        (before.goes_on end (e.text ∷ texts) (event inside happens h));
-    written = subst (λ (s : List ℕ). Appends a c s) (sym (all_shown_more lines e.text)) (Appends-trans a b c _ _ before.written line)
-  }
+  goes_on = λ end texts h. subst (λ (l : List Text). Ran file start_run l end) (sym (append_assoc lines (e.text ∷ []) texts))
+      (before.goes_on end (e.text ∷ texts) (event inside happens h));
+  written = subst (λ (s : List ℕ). Appends a c s) (sym (all_shown_more lines e.text)) (Appends-trans a b c _ _ before.written line);
+}
 
 -- and the last line, where no record is left
 pub at_end : (file : List ℕ) (lines : List Text) (r : Run) (last : Text) (a b c : Option (List ℕ)) → ComesTo file lines r a b

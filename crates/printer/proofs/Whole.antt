@@ -1,5 +1,5 @@
 -- The largest file has 60,003 bytes. A longer one is refused whatever stands behind byte 60,004, so it is enough to read that many.
-use Rattle.std.specs.Prelude.{if◌then◌else◌, ◌≡◌, ℕ, ◌<◌, ◌≤◌, Bool, true, false, not, List, length, take, drop, ltb, eqb, None, Some, IfSome, Result, Ok, Err, IfOk, OnOk, refl}
+use Rattle.std.specs.Prelude.{if◌then◌else◌, ◌≡◌, ℕ, ◌<◌, ◌≤◌, Bool, true, false, not, List, length, take, ltb, eqb, None, Some, IfSome, Result, Ok, Err, IfOk, OnOk, refl}
 use Rattle.std.proofs.Common.{sym, ap, subst, ◌∙◌, arith, take_all, length-take-le, length-drop, le-ltb, ltb-false, get_or-take, inl, inr}
 use Rattle.std.proofs.lemmas.Bool.{ne_eqb, cases_lt}
 use Rattle.std.specs.declared.option.Option.{Option}
@@ -50,14 +50,14 @@ module _ (n : ℕ) (file : List ℕ) (enough : 60003 < n) where
 
   pub read_verdict : file_verdict (take n file) ≡ file_verdict file
   read_verdict = elim (cases_lt (length file) n) [
-      inl h ↦ ap file_verdict (take_all n file (omega arith))
+    | inl h ↦ ap file_verdict (take_all n file (omega arith))
     | inr h ↦ long_read h ∙ ap (λ (r : Refusal). Refused r) same_why ∙ sym (long_here h)
   ]
 
   pub read_printed : printed (take n file) ≡ printed file
   unfolding printed file_text
   read_printed = elim (cases_lt (length file) n) [
-      inl h ↦ ap printed (take_all n file (omega arith))
+    | inl h ↦ ap printed (take_all n file (omega arith))
     | inr h ↦ rw (long_read h, long_here h) (ap refused_file same_why)
   ]
 

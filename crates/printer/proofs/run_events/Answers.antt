@@ -1,10 +1,6 @@
-use Rattle.std.proofs.Common.{◌≡◌, ℕ, ◌<◌, ◌-◌, List, [], ◌∷◌, ◌++◌, length, OnOk, subst, sym, arith}
-use Rattle.std.specs.Io.KnownBytes.{Appends}
-use Rattle.std.proofs.KnownBytes.{Appends-trans}
-use Rattle.schedule.specs.Shown.{shown}
+use Rattle.std.proofs.Common.{[], ◌∷◌, ◌++◌, arith}
 use Rattle.schedule.specs.Events.{next_later}
-use Rattle.printer.specs.Written.{WritesRun}
-use Rattle.printer.proofs.OnTheWay.{ComesTo, at_start, one_more, at_end, on_ok}
+use Rattle.printer.proofs.OnTheWay.{at_start, one_more, at_end, on_ok}
 use Rattle.printer.proofs.run_events.Goals as goal
 
 pub loop-run-init : goal.loop-run-init
@@ -17,9 +13,10 @@ loop-run-smaller g c =
 
 pub loop-run-preserved : goal.loop-run-preserved
 loop-run-preserved g c =
-    let before = c.loop-run.invariant in
-    (before.0 ++ c.next_event-event.result.text ∷ [],
-    one_more _ _ _ c.next_event-event.result _ _ _ before.1 c.loop-run-test.true c.next_event-event.ensures c.in_ok-show.ensures)
+    let before = c.loop-run.invariant in (
+      before.0 ++ c.next_event-event.result.text ∷ [],
+      one_more _ _ _ c.next_event-event.result _ _ _ before.1 c.loop-run-test.true c.next_event-event.ensures c.in_ok-show.ensures,
+    )
 
 pub returns : goal.returns
 returns g c =
