@@ -5,7 +5,7 @@ use crate::random::{below, next, random_call};
 use crate::show;
 use crate::tables::{agree, by_value, called, on_words, same_words, start, verdict_number};
 use model::{Call, Catalogue, Worker};
-use std::num::wrapping_add_u32;
+use std::io;
 
 // How many tables packed no rows, by the refusal of the call; how many packed rows, by whether the state was well formed; and on how many
 // the two tables, or the words before and after, were different.
@@ -19,7 +19,7 @@ pub struct Found {
 }
 
 fn one_more(n: u32, more: bool) -> u32 {
-    if more { wrapping_add_u32(n, 1) } else { n }
+    if more { n.wrapping_add(1) } else { n }
 }
 
 // Half of the new values are small, as those of successors and of the words behind them are.
@@ -81,26 +81,23 @@ fn looked_for(seed: u32) -> Found {
     };
     let mut t = start();
     let mut x = seed;
-    let mut i: u32 = 0;
-    while i < 4000 {
+    for _ in 0..4000 {
         t = called(t, random_call(x, 12));
         x = next(next(next(next(next(x)))));
-        let words = t.words;
-        let workers = t.workers;
-        f = compared(f, with_change(words, x), workers, random_call(next(x), 12));
+        let words = with_change(t.words, x);
+        f = compared(f, words, t.workers, random_call(next(x), 12));
         x = next(next(next(next(next(x)))));
-        i += 1;
     }
     f
 }
 
-pub fn show(seed: u32) {
+pub fn show(rt: &impl Print, seed: u32) -> io::Result<()> {
     let f = looked_for(seed);
-    show::field(b"changed words, seed ", seed);
-    show::field(b": no rows, refused with 1: ", f.nothing_1);
-    show::field(b", with 4: ", f.nothing_4);
-    show::field(b"; not well formed ", f.ill);
-    show::field(b"; well formed ", f.well);
-    show::field(b"; different ", f.different);
-    show::text(b"\n");
+    show::field(rt, "changed words, seed ", seed)?;
+    show::field(rt, ": no rows, refused with 1: ", f.nothing_1)?;
+    show::field(rt, ", with 4: ", f.nothing_4)?;
+    show::field(rt, "; not well formed ", f.ill)?;
+    show::field(rt, "; well formed ", f.well)?;
+    show::field(rt, "; different ", f.different)?;
+    rt.println("")
 }

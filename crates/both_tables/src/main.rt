@@ -1,6 +1,6 @@
 // The packed table beside the catalogue by value. Every call is made on both, and then the words are compared with the packing of the
 // rows: over the schedules that are its arguments, random calls, tables with one word changed, and other numbers of words than 512. The
-// stored output was worked out by another machine, from document 01 and docs/PACKED.md.
+// stored output was worked out by another machine, tools/both_tables.py, which has one table alone and none of these crates' code.
 
 #![tactic(auto)]
 
@@ -11,18 +11,31 @@ mod random;
 mod show;
 mod tables;
 
-fn main() {
-    let count = os::arg_count();
-    let mut i: usize = 1;
-    while i < count {
-        published::show(i);
-        i += 1;
+use std::env::{Env, FillError};
+use std::fs::Files;
+use std::io;
+
+// The schedules that the arguments name. A name that is no text of at most 100 bytes stands as an empty one, which no file has.
+fn show_published(rt: &(impl Env + Files + Print)) -> io::Result<()> {
+    let mut name = [0u8; 100];
+    for i in 1..usize::MAX {
+        let n = match rt.arg(i, &mut name) {
+            Ok(n) => n,
+            Err(FillError::TooLong) => 0,
+            Err(FillError::NotPresent) => break,
+        };
+        published::show(rt, str::from_utf8(&name[..n]).unwrap_or(""))?;
     }
-    random::show(1, 12);
-    random::show(2, 40);
-    random::show(3, 4);
-    random::show(4, 1000);
-    changed::show(5);
-    changed::show(6);
-    lengths::show();
+    Ok(())
+}
+
+fn main(rt: HostRuntime) -> io::Result<()> {
+    show_published(&rt)?;
+    random::show(&rt, 1, 12)?;
+    random::show(&rt, 2, 40)?;
+    random::show(&rt, 3, 4)?;
+    random::show(&rt, 4, 1000)?;
+    changed::show(&rt, 5)?;
+    changed::show(&rt, 6)?;
+    lengths::show(&rt)
 }

@@ -2,19 +2,17 @@
 
 use crate::show;
 use crate::tables::{Tables, called, start};
-use libc::STDOUT_FILENO;
+use printer::read_full;
 use schedule_file::record_call;
-
-fn size(n: u8) -> usize {
-    n as usize
-}
+use std::fs::{File, Files};
+use std::io;
 
 fn run(file: &[u8]) -> Tables {
     let mut t = start();
     let mut at: usize = 3;
     while at < file.len() {
         let first = at + 1;
-        let n = size(file[at]);
+        let n = usize::from(file[at]);
         if file.len() - first < n {
             return t;
         }
@@ -24,22 +22,16 @@ fn run(file: &[u8]) -> Tables {
     t
 }
 
-// The schedule that argument i names: its calls, and the words of the rows that are taken after the last.
-pub fn show(i: usize) {
-    let mut name = [0u8; 100];
-    let n = os::arg(i, &mut name);
-    io::write_all(STDOUT_FILENO, &name[..n]);
-    let file = os::open_read(&name[..n]);
-    if file < 0 {
-        show::text(b": cannot be opened\n");
-        return;
-    }
+// The schedule of this name: its calls, and the words of the rows that are taken after the last.
+pub fn show(rt: &(impl Files + Print), name: &str) -> io::Result<()> {
+    rt.print(name)?;
+    let Ok(mut file) = File::open(rt, name) else {
+        return rt.println(": cannot be opened");
+    };
     let mut buffer = [0u8; 1000];
-    let got = io::read_full(file, &mut buffer);
-    libc::close(file);
-    let t = run(&buffer[..got]);
-    show::text(b": ");
-    show::tables(t);
-    let words = t.words;
-    show::rows(words);
+    let n = read_full(&mut file, &mut buffer)?;
+    let t = run(&buffer[..n]);
+    rt.print(": ")?;
+    show::tables(rt, t)?;
+    show::rows(rt, t.words)
 }

@@ -3,6 +3,7 @@
 use crate::show;
 use crate::tables::{Tables, called, start};
 use model::Call;
+use std::io;
 
 // The next number of the sequence x -> (1103515245 x + 12345) mod 2 to the power 32.
 pub fn next(x: u32) -> u32 {
@@ -47,22 +48,17 @@ fn call_number(i: u32, x: u32, keys: u32) -> Call {
 fn calls(seed: u32, keys: u32) -> Tables {
     let mut t = start();
     let mut x = seed;
-    let mut i: u32 = 0;
-    while i < 6400 {
+    for i in 0..6400 {
         t = called(t, call_number(i, x, keys));
         x = next(next(next(next(next(x)))));
-        i += 1;
     }
     t
 }
 
-pub fn show(seed: u32, keys: u32) {
+pub fn show(rt: &impl Print, seed: u32, keys: u32) -> io::Result<()> {
     let t = calls(seed, keys);
-    let words = t.words;
-    show::field(b"random, seed ", seed);
-    show::field(b", keys below ", keys);
-    show::text(b": ");
-    show::tables(t);
-    show::field(b"  the words to the base 31: ", show::digest(words));
-    show::text(b"\n");
+    print!(rt; "random, seed {seed}, keys below {keys}: ")?;
+    show::tables(rt, t)?;
+    show::field(rt, "  the words to the base 31: ", show::digest(t.words))?;
+    rt.println("")
 }

@@ -1,7 +1,6 @@
 // Both tables, and a call on both.
 
 use model::{Call, Called, Catalogue, Line, Stepped, Verdict, Worker};
-use std::num::wrapping_add_u32;
 
 // The catalogue by value; the same packed; and how many calls were made, were refused, and left the two different.
 #[derive(Clone, Copy)]
@@ -62,17 +61,7 @@ pub fn on_words(words: &mut [u32], workers: [Worker; Catalogue::WORKERS], x: Cal
 }
 
 pub fn same_words(a: &[u32], b: &[u32]) -> bool {
-    if a.len() != b.len() {
-        return false;
-    }
-    let mut i: usize = 0;
-    while i < a.len() {
-        if a[i] != b[i] {
-            return false;
-        }
-        i += 1;
-    }
-    true
+    a == b
 }
 
 fn packs(state: Catalogue, words: &[u32]) -> bool {
@@ -103,18 +92,12 @@ fn reply_of(l: Line) -> Reply {
 }
 
 fn same_answers(a: [Worker; Catalogue::WORKERS], b: [Worker; Catalogue::WORKERS]) -> bool {
-    let mut i: usize = 0;
-    while i < 8 {
-        let j = a[i];
-        let k = b[i];
-        let of_j = j.line;
-        let of_k = k.line;
-        let x = reply_of(of_j);
-        let y = reply_of(of_k);
+    for i in 0..8 {
+        let x = reply_of(a[i].line);
+        let y = reply_of(b[i].line);
         if x.number != y.number || x.element != y.element {
             return false;
         }
-        i += 1;
     }
     true
 }
@@ -137,12 +120,12 @@ pub fn called(t: Tables, x: Call) -> Tables {
     let called = on_words(&mut words, workers, x);
     let mut different = t.different;
     if !agree(made, called, &words) {
-        different = wrapping_add_u32(different, 1);
+        different = different.wrapping_add(1);
     }
     let mut refused = t.refused;
     let v = called.verdict;
     if verdict_number(v) != 0 {
-        refused = wrapping_add_u32(refused, 1);
+        refused = refused.wrapping_add(1);
     }
     let next = made.state;
     let others = called.workers;
@@ -150,7 +133,7 @@ pub fn called(t: Tables, x: Call) -> Tables {
         state: next,
         words: words,
         workers: others,
-        calls: wrapping_add_u32(t.calls, 1),
+        calls: t.calls.wrapping_add(1),
         refused: refused,
         different: different,
     }

@@ -12,7 +12,7 @@ ghost use Rattle.model.specs.Printed.{printed};
 ghost use Rattle.schedule.specs.Shown.{shown};
 ghost use Rattle.printer.specs.Written.{WritesRun};
 
-use input::read_full;
+pub use input::read_full;
 use model::Verdict;
 use schedule::{Run, Text};
 use std::io;
