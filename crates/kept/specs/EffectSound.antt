@@ -1,4 +1,4 @@
--- In a well_formed_holds state the effect of every busy worker's line is sound.
+-- In a well-formed state the effect of every busy worker's line is sound.
 use Rattle.std.specs.Prelude.{ℕ, ◌-◌, ◌≤◌, ◌<◌, true, false, ◌≡◌, refl, List, length}
 use Rattle.std.proofs.Math.Decide.{dec_lt}
 use Rattle.std.proofs.Common.{arith}

@@ -1,4 +1,4 @@
--- A worker's pending helps after a sound effect: as a well_formed_holds state has them.
+-- A worker's pending helps after a sound effect: as a well-formed state has them.
 use Rattle.std.specs.Prelude.{ℕ, ◌-◌, true, false, ◌≡◌, refl, List, set}
 use Rattle.std.proofs.Common.{arith, length-set, leb-false}
 use Rattle.model.specs.State.{no_help, no_helps, fresh_worker, idle}

@@ -4,7 +4,7 @@ pub mod Stores
 pub mod Standing
 pub mod FreeRows
 pub mod IdleLine
--- The ways of a call, sizes, and a well_formed_holds state clause by clause
+-- The ways of a call, sizes, and a well-formed state clause by clause
 pub mod Ways
 pub mod Sized
 pub mod WellFormedFacts

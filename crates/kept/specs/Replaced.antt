@@ -1,4 +1,4 @@
--- A worker's record replaced, and rows written, as a sound effect says: a well_formed_holds state stays well formed, and its saves stay.
+-- A worker's record replaced, and rows written, as a sound effect says: a well-formed state stays well formed, and its saves stay.
 use Rattle.std.specs.Prelude.{ℕ, ◌<◌, ◌≡◌, refl, ◌≢◌, List, set}
 use Rattle.std.proofs.Common.{sym, ◌∙◌, ap, arith}
 use Rattle.model.specs.State.{row_at, worker_at, idle_worker}

@@ -1,4 +1,4 @@
--- What is asked of an effect, so that it leaves a well_formed_holds state: good row numbers, and rows that are taken, given back or linked
+-- What is asked of an effect, so that it leaves a well-formed state: good row numbers, and rows that are taken, given back or linked
 -- only as the worker's next line says.
 use Rattle.std.specs.Prelude.{ℕ, ◌<◌, true, false, ◌≡◌, ◌≢◌, List, length}
 use Rattle.std.proofs.Math.Path.{refl}

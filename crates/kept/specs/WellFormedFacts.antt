@@ -1,4 +1,4 @@
--- What a well_formed_holds state is, clause by clause and index by index, in place of the test.
+-- What a well-formed state is, clause by clause and index by index, in place of the test.
 use Rattle.std.specs.Prelude.{ℕ, ◌≤◌, ◌<◌, true, false, ◌&&◌, ◌≡◌, ◌≢◌, List, ltb, eqb}
 use Rattle.std.proofs.Math.Path.{refl}
 use borrow.Author.Tests.{ltb-true, lt-ltb, leb-true, le-leb, eqb-true, eq-eqb, ne_eqb}

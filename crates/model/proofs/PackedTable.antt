@@ -35,7 +35,7 @@ samples =
     -- held by worker 0 and by worker 7
     ∷ sample 20 200 0 (succ_of 3 false false) (Held 0) (20 ∷ 200 ∷ 12 ∷ 512 ∷ [])
     ∷ sample 20 200 127 (succ_of 127 false false) (Held 7) (20 ∷ 200 ∷ 508 ∷ 2431 ∷ [])
-    -- rows of no well_formed_holds state: mark and flag both set, row 128, worker 8, and the largest numbers of each field
+    -- rows of no well-formed state: mark and flag both set, row 128, worker 8, and the largest numbers of each field
     ∷ sample 5 50 0 (succ_of 3 true true) Linked (5 ∷ 50 ∷ 15 ∷ 256 ∷ [])
     ∷ sample 5 50 128 (succ_of 128 false false) (Held 8) (5 ∷ 50 ∷ 512 ∷ 2688 ∷ [])
     ∷ sample 4294967295 4294967295 255 (succ_of 255 true true) (Held 255) (4294967295 ∷ 4294967295 ∷ 1023 ∷ 66047 ∷ [])

@@ -87,7 +87,7 @@ packs_rows words = if eqb (length words) 512 then packs_each words else false
 abbrev pub state_of : List ℕ → List Worker → Catalogue
 state_of words workers = record { rows = unpacked words; workers = workers }
 
--- a well_formed_holds state, packed
+-- a well-formed state, packed
 unfoldable pub packed_well : List ℕ → List Worker → Bool
 packed_well words workers = if packs_rows words then well_formed (state_of words workers) else false
 
