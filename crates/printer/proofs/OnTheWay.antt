@@ -1,66 +1,128 @@
--- A run on its way: where it stands, and what was written so far.
-use Rattle.std.specs.Prelude.{◌≡◌, ℕ, ◌<◌, ◌≤◌, List, [], ◌∷◌, ◌++◌, length, Result, Ok, Err, OnOk}
-use Rattle.std.proofs.Common.{sym, ap, ◌∙◌, subst, append_assoc, append-nil}
+-- A run on its way: what was written so far, and that what is left to print makes it whole.
+use Rattle.std.specs.Prelude.{◌≡◌, ℕ, zero, suc, ◌+◌, ◌-◌, ◌^◌, ◌<◌, ◌≤◌, List, [], ◌++◌, length, drop, refl}
+use Rattle.std.proofs.Common.{sym, ap, ◌∙◌, subst, append_assoc, arith, length-drop}
 use Rattle.std.specs.declared.option.Option.{Option}
 use Rattle.std.specs.Io.KnownBytes.{Appends}
 use Rattle.std.proofs.KnownBytes.{Appends-nil, Appends-trans}
 use Rattle.schedule.specs.declared.text.Text.{Text}
 use Rattle.schedule.specs.declared.run.Run.{Run}
 use Rattle.schedule.specs.declared.run.Event.{Event}
-use Rattle.model.specs.Schedule.{file_verdict}
-use Rattle.model.specs.Printed.{heading, last_line, refused_file, printed}
+use Rattle.model.specs.State.{empty_catalogue}
+use Rattle.model.specs.Schedule.{body, calls_from, calls_of, file_verdict}
+use Rattle.model.specs.Printed.{heading, last_line, run_text, refused_file, file_text, printed}
 use Rattle.model.specs.declared.Verdict.TheVariants.{Accepted, Refused}
 use Rattle.model.specs.declared.Refusal.{Refusal}
 use Rattle.schedule.specs.Shown.{shown, Shows}
 use Rattle.schedule.specs.Events.{start_run, Happens}
-use Rattle.schedule.specs.Whole.{Ran, all_shown}
-use Rattle.schedule.proofs.Whole.{run_prints, refused_prints}
-use Rattle.schedule.specs.Whole.Ran.{over, event}
-use Rattle.printer.specs.Written.{WritesRun}
+use Rattle.schedule.proofs.Whole.{event_prints, still_enough, last_prints, accepted_short, refused_prints}
+use Rattle.printer.specs.Written.{AppendsFront}
+use Rattle.printer.proofs.Fronts.{behind, longer}
 
--- These lines were written, and they lead from the start to r: whatever run goes on from there, one from the start has its lines behind these.
-pub record ComesTo (file : List ℕ) (lines : List Text) (r : Run) (old new : Option (List ℕ)) : Type 0 where
-  pub goes_on : (end : Run) (texts : List Text) → Ran file r texts end → Ran file start_run (lines ++ texts) end
-  pub written : Appends old new (all_shown lines)
+-- the lines of the events and the last line
+abbrev pub all_lines : List ℕ → List ℕ
+all_lines file = run_text 1 empty_catalogue (calls_of file)
 
-pub at_start : (file : List ℕ) (a : Option (List ℕ)) → ComesTo file [] start_run a a
-unfolding all_shown
-at_start file a = record { goes_on = λ end texts h. h; written = Appends-nil a }
+abbrev left_to_print : List ℕ → Run → ℕ → List ℕ
+left_to_print file r tries = run_text r.event r.state (calls_from tries (drop r.at file))
 
-all_shown_more : (lines : List Text) (t : Text) → all_shown (lines ++ t ∷ []) ≡ all_shown lines ++ shown t
-unfolding all_shown
-all_shown_more [] t = append-nil (shown t)
-all_shown_more (l ∷ lines) t = ap (λ (s : List ℕ). shown l ++ s) (all_shown_more lines t) ∙ sym (append_assoc (shown l) (all_shown lines) (shown t))
+-- The bytes `lines` were written, and with what is left to print from r on they are all lines. The tries are as many as the bytes that
+-- are left, and the event numbers fit.
+pub record OnTheWay (file : List ℕ) (r : Run) (old new : Option (List ℕ)) : Type 0 where
+  pub tries : ℕ
+  pub enough : length file - r.at ≤ tries
+  pub fits : r.event + (length file - r.at) < 2 ^ 32
+  pub lines : List ℕ
+  pub whole : lines ++ left_to_print file r tries ≡ all_lines file
+  pub written : Appends old new lines
 
--- one event more
-pub one_more : (file : List ℕ) (lines : List Text) (r : Run) (e : Event) (a b c : Option (List ℕ)) → ComesTo file lines r a b
-    → r.at < length file → Happens file r e → Appends b c (shown e.text) → ComesTo file (lines ++ e.text ∷ []) e.run a c
-one_more file lines r e a b c before inside happens line = record {
-  goes_on = λ end texts h. subst (λ (l : List Text). Ran file start_run l end) (sym (append_assoc lines (e.text ∷ []) texts))
-      (before.goes_on end (e.text ∷ texts) (event inside happens h));
-  written = subst (λ (s : List ℕ). Appends a c s) (sym (all_shown_more lines e.text)) (Appends-trans a b c _ _ before.written line);
-}
+pub at_start : (file : List ℕ) (a : Option (List ℕ)) → file_verdict file ≡ Accepted → OnTheWay file start_run a a
+unfolding calls_of
+at_start file a accepted =
+    let short : length (body file) ≤ 60000 = accepted_short file accepted in
+    record {
+      tries = length (body file);
+      enough = omega (arith, length-drop 3 file);
+      fits = omega (arith, length-drop 3 file);
+      lines = [];
+      whole = refl;
+      written = Appends-nil a;
+    }
 
--- and the last line, where no record is left
-pub at_end : (file : List ℕ) (lines : List Text) (r : Run) (last : Text) (a b c : Option (List ℕ)) → ComesTo file lines r a b
-    → length file ≤ r.at → Shows (last_line r.state) last → Appends b c (shown last) → WritesRun a c file
-at_end file lines r last a b c before past shows line =
-    let ran = subst (λ (l : List Text). Ran file start_run l r) (append-nil lines) (before.goes_on r [] (over past)) in
-    (lines, r, last, ran, shows, Appends-trans a b c _ _ before.written line)
+module _ {file : List ℕ} {r : Run} {a b : Option (List ℕ)} (before : OnTheWay file r a b) where
+  -- What follows where a record is left: its event's line, and what is left to print after it.
+  module _ {e : Event} (inside : r.at < length file) (happens : Happens file r e) where
+    record Follows : Type 0 where
+      pub tries : ℕ
+      pub enough : length file - e.run.at ≤ tries
+      pub fits : e.run.event + (length file - e.run.at) < 2 ^ 32
+      pub whole : before.lines ++ (shown e.text ++ left_to_print file e.run tries) ≡ all_lines file
 
--- with the heading before them, these are the bytes of an accepted file
-pub all_told : (file : List ℕ) (first : Text) (a b c : Option (List ℕ)) → Accepted ≡ file_verdict file → Shows heading first
-    → Appends a b (shown first) → WritesRun b c file → Appends a c (printed file)
-all_told file first a b c accepted shows head (lines, end, last, ran, ends, told) =
-    subst (λ (s : List ℕ). Appends a c s) (run_prints (sym accepted) shows ran ends) (Appends-trans a b c _ _ head told)
+    follows : Follows
+    follows = go before.tries before.enough before.whole
+      where
+        go : (tries : ℕ) → length file - r.at ≤ tries → before.lines ++ left_to_print file r tries ≡ all_lines file → Follows
+        go zero enough whole = absurd (omega arith)
+        go (suc tries) enough whole =
+            let still = still_enough inside happens tries enough before.fits in
+            record {
+              tries = tries;
+              enough = still.0;
+              fits = still.1;
+              whole = ap (λ (l : List ℕ). before.lines ++ l) (sym (event_prints inside happens tries before.fits)) ∙ whole;
+            }
 
--- one line is the bytes of a refused file
-pub refused_told : (file : List ℕ) (r : Refusal) (only : Text) (a b : Option (List ℕ)) → Refused r ≡ file_verdict file
-    → Shows (refused_file r) only → Appends a b (shown only) → Appends a b (printed file)
-refused_told file r only a b refused shows told =
-    subst (λ (s : List ℕ). Appends a b s) (refused_prints file (sym refused) shows) told
+    -- one event more
+    pub one_more : (c : Option (List ℕ)) → Appends b c (shown e.text) → OnTheWay file e.run a c
+    one_more c line = record {
+      tries = follows.tries;
+      enough = follows.enough;
+      fits = follows.fits;
+      lines = before.lines ++ shown e.text;
+      whole = append_assoc before.lines (shown e.text) (left_to_print file e.run follows.tries) ∙ follows.whole;
+      written = Appends-trans a b c _ _ before.written line;
+    }
 
--- what holds on Ok, by what holds there
-pub on_ok : {T E P Q : Type 0} (r : Result T E) → (P → Q) → OnOk r P → OnOk r Q
-on_ok (Ok x) f p = f p
-on_ok (Err e) f p = tt
+    -- a write of its line that stopped
+    pub stopped_there : (c : Option (List ℕ)) → AppendsFront b c (shown e.text) → AppendsFront a c (all_lines file)
+    stopped_there c part =
+        subst (AppendsFront a c) follows.whole (behind a b c before.lines _ before.written (longer b c (shown e.text) _ part))
+
+  -- And the last line, where no record is left.
+  module _ {last : Text} (past : length file ≤ r.at) (shows : Shows (last_line r.state) last) where
+    whole_then : before.lines ++ shown last ≡ all_lines file
+    whole_then = ap (λ (l : List ℕ). before.lines ++ l) (shows.shows ∙ sym (last_prints file r past before.tries)) ∙ before.whole
+
+    pub at_end : (c : Option (List ℕ)) → Appends b c (shown last) → Appends a c (all_lines file)
+    at_end c line = subst (Appends a c) whole_then (Appends-trans a b c _ _ before.written line)
+
+    pub stopped_at_end : (c : Option (List ℕ)) → AppendsFront b c (shown last) → AppendsFront a c (all_lines file)
+    stopped_at_end c part = subst (AppendsFront a c) whole_then (behind a b c before.lines _ before.written part)
+
+-- ---- The whole file ----
+
+module _ (file : List ℕ) where
+  accepted_whole : {first : Text} → Accepted ≡ file_verdict file → Shows heading first → shown first ++ all_lines file ≡ printed file
+  unfolding printed file_text
+  accepted_whole accepted shows = rw (← accepted, shows.shows)
+
+  -- with the heading before them, these are the bytes of an accepted file
+  pub all_told : (first : Text) (a b c : Option (List ℕ)) → Accepted ≡ file_verdict file → Shows heading first
+      → Appends a b (shown first) → Appends b c (all_lines file) → Appends a c (printed file)
+  all_told first a b c accepted shows head told = subst (Appends a c) (accepted_whole accepted shows) (Appends-trans a b c _ _ head told)
+
+  pub stopped_in_heading : (first : Text) (a b : Option (List ℕ)) → Accepted ≡ file_verdict file → Shows heading first
+      → AppendsFront a b (shown first) → AppendsFront a b (printed file)
+  stopped_in_heading first a b accepted shows part = subst (AppendsFront a b) (accepted_whole accepted shows) (longer a b (shown first) _ part)
+
+  pub stopped_in_lines : (first : Text) (a b c : Option (List ℕ)) → Accepted ≡ file_verdict file → Shows heading first
+      → Appends a b (shown first) → AppendsFront b c (all_lines file) → AppendsFront a c (printed file)
+  stopped_in_lines first a b c accepted shows head part =
+      subst (AppendsFront a c) (accepted_whole accepted shows) (behind a b c (shown first) _ head part)
+
+  -- one line is the bytes of a refused file
+  module _ (r : Refusal) (only : Text) (a b : Option (List ℕ)) (refused : Refused r ≡ file_verdict file) (shows : Shows (refused_file r) only) where
+    pub refused_told : Appends a b (shown only) → Appends a b (printed file)
+    refused_told told = subst (Appends a b) (refused_prints file (sym refused) shows) told
+
+    pub stopped_in_refusal : AppendsFront a b (shown only) → AppendsFront a b (printed file)
+    stopped_in_refusal part = subst (AppendsFront a b) (refused_prints file (sym refused) shows) part

@@ -1,9 +1,10 @@
 -- The largest file has 60,003 bytes. A longer one is refused whatever stands behind byte 60,004, so it is enough to read that many.
-use Rattle.std.specs.Prelude.{if◌then◌else◌, ◌≡◌, ℕ, ◌<◌, ◌≤◌, Bool, true, false, not, List, length, take, ltb, eqb, None, Some, IfSome, Result, Ok, Err, IfOk, OnOk, refl}
+use Rattle.std.specs.Prelude.{if◌then◌else◌, ◌≡◌, ℕ, ◌<◌, ◌≤◌, Bool, true, false, not, List, length, take, ltb, eqb, None, Some, IfSome, Result, Ok, Err, IfOk, OnOk, OnErr, refl}
 use Rattle.std.proofs.Common.{sym, ap, subst, ◌∙◌, arith, take_all, length-take-le, length-drop, le-ltb, ltb-false, get_or-take, inl, inr}
 use Rattle.std.proofs.lemmas.Bool.{ne_eqb, cases_lt}
 use Rattle.std.specs.declared.option.Option.{Option}
 use Rattle.std.specs.Io.KnownBytes.{Appends}
+use Rattle.printer.specs.Written.{AppendsFront}
 use Rattle.model.specs.Schedule.{byte_at, two_bytes, stated_length, body, records_fit, file_verdict}
 use Rattle.model.specs.Printed.{refused_file, file_text, printed}
 use Rattle.model.specs.declared.Verdict.{Verdict}
@@ -76,3 +77,11 @@ input_written (Ok v) None old new bytes n enough read told = tt
 input_written (Ok v) (Some file) old new bytes n enough read told =
     subst (λ (s : List ℕ). Appends old new s) (ap printed read ∙ read_printed n file enough) told
 input_written (Err e) known old new bytes n enough read told = tt
+
+pub input_stopped : {T E : Type 0} (r : Result T E) (known old new : Option (List ℕ)) (bytes : List ℕ) (n : ℕ) → 60003 < n
+    → IfSome known (λ file. bytes ≡ take n file) → OnErr r (AppendsFront old new (printed bytes))
+    → OnErr r (IfSome known (λ file. AppendsFront old new (printed file)))
+input_stopped (Ok v) known old new bytes n enough read told = tt
+input_stopped (Err e) None old new bytes n enough read told = tt
+input_stopped (Err e) (Some file) old new bytes n enough read told =
+    subst (λ (s : List ℕ). AppendsFront old new s) (ap printed read ∙ read_printed n file enough) told

@@ -1,35 +1,32 @@
 // What a schedule file prints, written to a writer: for the program and for the test program over all schedules. The crate `schedule` has
-// the lines; here it is shown that a writer whose bytes are known gets every byte that the model prints for the file, and no other.
+// the lines; here it is shown that a writer whose bytes are known gets every byte that the model prints for the file, and no other, or,
+// where a write fails, a first part of them.
 
 #![tactic(auto)]
 
 mod input;
+mod output;
 
-ghost use Rattle.std.specs.Prelude.{◌≡◌, IfSome, IfOk, OnOk};
+ghost use Rattle.std.specs.Prelude.{◌≡◌, IfSome, IfOk, OnOk, OnErr};
 ghost use Rattle.std.specs.Io.KnownBytes.{Appends};
-ghost use Rattle.model.specs.Schedule.{file_verdict};
-ghost use Rattle.model.specs.Printed.{printed};
-ghost use Rattle.schedule.specs.Shown.{shown};
-ghost use Rattle.printer.specs.Written.{WritesRun};
+ghost use Rattle.model.specs.State.{empty_catalogue};
+ghost use Rattle.model.specs.Schedule.{file_verdict, calls_of};
+ghost use Rattle.model.specs.Printed.{run_text, printed};
+ghost use Rattle.model.specs.declared.Verdict.TheVariants.{Accepted};
+ghost use Rattle.printer.specs.Written.{AppendsFront};
 
 pub use input::read_full;
 use model::Verdict;
-use schedule::{Run, Text};
+use output::show;
+use schedule::Run;
 use std::io;
 use std::io::{Read, Write};
 
-// The bytes of a line.
-fn show<W: Write>(out: &mut W, t: Text) -> io::Result<()>
-    ensures { OnOk result (Appends (W.contents out.old) (W.contents out.new) (shown t)) }
-{
-    let bytes = t.bytes;
-    let len = t.len.min(48);
-    out.write_all(&bytes[..len])
-}
-
 // Each event, one after another, and the last line.
 fn run_events<W: Write>(out: &mut W, file: &[u8]) -> io::Result<()>
-    ensures { OnOk result (WritesRun (W.contents out.old) (W.contents out.new) file.now) }
+    requires { file_verdict file.now ≡ Accepted }
+    ensures written { OnOk result (Appends (W.contents out.old) (W.contents out.new) (run_text 1 empty_catalogue (calls_of file.now))) }
+    ensures stopped { OnErr result (AppendsFront (W.contents out.old) (W.contents out.new) (run_text 1 empty_catalogue (calls_of file.now))) }
 {
     let mut run = Run::start();
     while run.at < file.len() {
@@ -40,10 +37,11 @@ fn run_events<W: Write>(out: &mut W, file: &[u8]) -> io::Result<()>
     show(out, schedule::last_line(run.state))
 }
 
-// Prints all that the file prints, and answers whether it was refused. The only error is that of a write, which leaves the rest unwritten.
+// Prints all that the file prints, and answers whether it was refused. The only error is that of a write.
 pub fn replay<W: Write>(out: &mut W, file: &[u8]) -> io::Result<Verdict>
     ensures verdict { IfOk result (λ verdict. verdict ≡ file_verdict file.now) }
     ensures written { OnOk result (Appends (W.contents out.old) (W.contents out.new) (printed file.now)) }
+    ensures stopped { OnErr result (AppendsFront (W.contents out.old) (W.contents out.new) (printed file.now)) }
 {
     let verdict = schedule_file::check(file);
     match verdict {
@@ -61,6 +59,7 @@ pub fn replay<W: Write>(out: &mut W, file: &[u8]) -> io::Result<Verdict>
 pub fn replay_from<R: Read, W: Write>(input: &mut R, out: &mut W) -> io::Result<Verdict>
     ensures verdict { IfOk result (λ verdict. IfSome (R.remaining input.old) (λ file. verdict ≡ file_verdict file)) }
     ensures written { OnOk result (IfSome (R.remaining input.old) (λ file. Appends (W.contents out.old) (W.contents out.new) (printed file))) }
+    ensures stopped { OnErr result (IfSome (R.remaining input.old) (λ file. AppendsFront (W.contents out.old) (W.contents out.new) (printed file))) }
 {
     let mut buffer = [0u8; 60004];
     let n = read_full(input, &mut buffer)?;

@@ -1,7 +1,7 @@
 -- What a whole run prints: the heading, the lines of the events one after another, and the last line are every byte that the model
 -- prints for the file, whatever values the functions give back that their contracts allow.
 use Rattle.std.specs.Prelude.{if◌then◌else◌, ◌≡◌, ℕ, zero, suc, ◌+◌, ◌-◌, ◌%◌, ◌^◌, ◌<◌, ◌≤◌, Bool, true, false, not, List, [], ◌∷◌, ◌++◌, length, drop, ◌==◌, nat_lt, refl}
-use Rattle.std.proofs.Common.{ap, ◌∙◌, append_assoc, arith, length-drop, drop_of_length-le, ltb-false, eqb-true}
+use Rattle.std.proofs.Common.{ap, sym, ◌∙◌, append_assoc, arith, length-drop, drop_of_length-le, ltb-false, eqb-true}
 use Rattle.std.proofs.lemmas.Bool.{not-false}
 use Rattle.model.specs.Schedule.{stated_length, body, records_fit, byte_at, calls_from, calls_of, file_verdict}
 use Rattle.model.specs.Printed.{heading, last_line, run_text, refused_file, file_text, printed}
@@ -10,9 +10,10 @@ use Rattle.model.specs.declared.Refusal.{Refusal}
 use Rattle.model.specs.declared.Refusal.TheVariants.{FileVersion, FileLength, FileRecord, FileTooLong}
 use Rattle.schedule.specs.declared.text.Text.{Text}
 use Rattle.schedule.specs.declared.run.Run.{Run}
+use Rattle.schedule.specs.declared.run.Event.{Event}
 use Rattle.schedule.specs.Shown.{shown, Shows}
 use Rattle.schedule_file.specs.Records.{call_at, after, left_at, left_after}
-use Rattle.schedule.specs.Events.{start_run, moved, line_inside, next_inside}
+use Rattle.schedule.specs.Events.{start_run, moved, Happens, line_inside, next_inside}
 use Rattle.schedule.specs.Whole.{Ran, over, event, all_shown}
 
 calls_over : (tries : ℕ) (file : List ℕ) (at : ℕ) → length file ≤ at → calls_from tries (drop at file) ≡ []
@@ -25,24 +26,45 @@ calls_step : (tries : ℕ) (file : List ℕ) (at : ℕ) → at < length file
 unfolding calls_from
 calls_step tries file at h = rw (left_at file at h, left_after file at)
 
--- the tries are as many as the bytes that are left, and the event numbers fit
+-- What is left to print where a record is left, and what after its event. The tries are as many as the bytes that are left, and the event
+-- numbers fit.
+pub event_prints : {file : List ℕ} {r : Run} {e : Event} → r.at < length file → Happens file r e → (tries : ℕ)
+    → r.event + (length file - r.at) < 2 ^ 32
+    → run_text r.event r.state (calls_from (suc tries) (drop r.at file)) ≡ shown e.text ++ run_text e.run.event e.run.state (calls_from tries (drop e.run.at file))
+unfolding run_text
+event_prints {file} {r} {e} inside h tries fits =
+    let small : (r.event + 1) % 2 ^ 32 ≡ r.event + 1 = omega arith in
+    let stands : e.run ≡ moved file r = h.next ∙ next_inside file r inside in
+    rw (calls_step tries file r.at inside, ← line_inside file r inside, ← h.prints.shows, stands, small) refl
+
+-- the same where the run stands after that event
+pub still_enough : {file : List ℕ} {r : Run} {e : Event} → r.at < length file → Happens file r e → (tries : ℕ) → length file - r.at ≤ suc tries
+    → r.event + (length file - r.at) < 2 ^ 32
+    → (length file - e.run.at ≤ tries) × (e.run.event + (length file - e.run.at) < 2 ^ 32)
+still_enough {file} {r} {e} inside h tries enough fits =
+    let small : (r.event + 1) % 2 ^ 32 ≡ r.event + 1 = omega arith in
+    let stands : e.run ≡ moved file r = h.next ∙ next_inside file r inside in
+    (rw stands (omega arith), rw stands (omega arith))
+
+pub last_prints : (file : List ℕ) (r : Run) → length file ≤ r.at → (tries : ℕ)
+    → run_text r.event r.state (calls_from tries (drop r.at file)) ≡ last_line r.state
+unfolding run_text
+last_prints file r past tries = rw (calls_over tries file r.at past)
+
 ran_prints : {file : List ℕ} {r end : Run} {texts : List Text} → Ran file r texts end → (tries : ℕ) → length file - r.at ≤ tries
     → r.event + (length file - r.at) < 2 ^ 32
     → all_shown texts ++ last_line end.state ≡ run_text r.event r.state (calls_from tries (drop r.at file))
-unfolding all_shown run_text
-ran_prints {file} {r} (over past) tries enough fits = rw (calls_over tries file r.at past)
+unfolding all_shown
+ran_prints {file} {r} (over past) tries enough fits = sym (last_prints file r past tries)
 ran_prints {file} {r} (event inside h rest) zero enough fits = absurd (omega arith)
 ran_prints {file} {r} {end} (event {e = e} {texts = texts} inside h rest) (suc tries) enough fits =
-    let small : (r.event + 1) % 2 ^ 32 ≡ r.event + 1 = omega arith in
-    let stands : e.run ≡ moved file r = h.next ∙ next_inside file r inside in
-    let enough' : length file - e.run.at ≤ tries = rw stands (omega arith) in
-    let fits' : e.run.event + (length file - e.run.at) < 2 ^ 32 = rw stands (omega arith) in
+    let still = still_enough inside h tries enough fits in
     append_assoc (shown e.text) (all_shown texts) (last_line end.state)
-    ∙ rw (calls_step tries file r.at inside, ← line_inside file r inside, ← h.prints.shows)
-    (ap (λ (l : List ℕ). shown e.text ++ l) (rw (stands, small) at (ran_prints rest tries enough' fits')))
+    ∙ ap (λ (l : List ℕ). shown e.text ++ l) (ran_prints rest tries still.0 still.1)
+    ∙ sym (event_prints inside h tries fits)
 
 -- A file that is accepted has at most 60,000 bytes of records.
-accepted_short : (file : List ℕ) → file_verdict file ≡ Accepted → length (body file) ≤ 60000
+pub accepted_short : (file : List ℕ) → file_verdict file ≡ Accepted → length (body file) ≤ 60000
 unfolding file_verdict
 accepted_short file h =
     let tests = go (nat_lt (length file) 3) (not (byte_at file 0 == 1)) (nat_lt 60000 (stated_length file))

@@ -1,10 +1,15 @@
-use Rattle.std.proofs.Common.{[], ◌∷◌, ◌++◌, arith}
+-- One event more is on its way, the last line makes the lines whole, and a write that stops leaves a first part of them.
+use Rattle.std.proofs.Common.{arith, sym, subst}
+use Rattle.schedule.specs.declared.run.Run.{Run}
 use Rattle.schedule.specs.Events.{next_later}
-use Rattle.printer.proofs.OnTheWay.{at_start, one_more, at_end, on_ok}
+use Rattle.printer.proofs.Fronts.{held, on_ok, on_err}
+use Rattle.printer.proofs.OnTheWay.{OnTheWay, at_start, one_more, stopped_there, at_end, stopped_at_end}
 use Rattle.printer.proofs.run_events.Goals as goal
 
 pub loop-run-init : goal.loop-run-init
-loop-run-init g c = ([], rw c.start-run.ensures (at_start _ _))
+loop-run-init g c =
+    subst (λ (r : Run). OnTheWay c.args.file.now r (g.W.Write.contents c.args.out.now) (g.W.Write.contents c.args.out.now)) (sym c.start-run.ensures)
+    (at_start c.args.file.now _ c.requires)
 
 pub loop-run-smaller : goal.loop-run-smaller
 loop-run-smaller g c =
@@ -12,13 +17,17 @@ loop-run-smaller g c =
     rw c.next_event-event.ensures.next (omega (arith, later))
 
 pub loop-run-preserved : goal.loop-run-preserved
-loop-run-preserved g c =
-    let before = c.loop-run.invariant in (
-      before.0 ++ c.next_event-event.result.text ∷ [],
-      one_more _ _ _ c.next_event-event.result _ _ _ before.1 c.loop-run-test.true c.next_event-event.ensures c.in_ok-show.ensures,
-    )
+loop-run-preserved g c = one_more c.loop-run.invariant c.loop-run-test.true c.next_event-event.ensures _ c.in_ok-show.ensures.written
 
-pub returns : goal.returns
-returns g c =
-    let before = c.loop-run.invariant in
-    on_ok c.show-2.result (at_end _ before.0 _ _ _ _ _ before.1 c.loop-run-test.false c.last_line.ensures) c.show-2.ensures
+pub returns-in_err-show-clause-stopped : goal.returns-in_err-show-clause-stopped
+returns-in_err-show-clause-stopped g c =
+    held c.from_residual.result
+    (stopped_there c.loop-run.invariant c.loop-run-test.true c.next_event-event.ensures _ c.in_err-show.ensures.stopped)
+
+pub returns-clause-written : goal.returns-clause-written
+returns-clause-written g c =
+    on_ok c.show-2.result (at_end c.loop-run.invariant c.loop-run-test.false c.last_line.ensures _) c.show-2.ensures.written
+
+pub returns-clause-stopped : goal.returns-clause-stopped
+returns-clause-stopped g c =
+    on_err c.show-2.result (stopped_at_end c.loop-run.invariant c.loop-run-test.false c.last_line.ensures _) c.show-2.ensures.stopped
