@@ -22,11 +22,10 @@ use schedule::Run;
 use std::io;
 use std::io::{Read, Write};
 
-// Each event, one after another, and the last line.
+// Each event, one after another, and the last line: of a file that is not refused these are the lines of its run.
 fn run_events<W: Write>(out: &mut W, file: &[u8]) -> io::Result<()>
-    requires { file_verdict file.now ≡ Accepted }
-    ensures written { OnOk result (Appends (W.contents out.old) (W.contents out.new) (run_text 1 empty_catalogue (calls_of file.now))) }
-    ensures stopped { OnErr result (AppendsFront (W.contents out.old) (W.contents out.new) (run_text 1 empty_catalogue (calls_of file.now))) }
+    ensures written { OnOk result (file_verdict file.now ≡ Accepted → Appends (W.contents out.old) (W.contents out.new) (run_text 1 empty_catalogue (calls_of file.now))) }
+    ensures stopped { OnErr result (file_verdict file.now ≡ Accepted → AppendsFront (W.contents out.old) (W.contents out.new) (run_text 1 empty_catalogue (calls_of file.now))) }
 {
     let mut run = Run::start();
     while run.at < file.len() {

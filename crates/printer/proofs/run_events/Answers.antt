@@ -7,9 +7,9 @@ use Rattle.printer.proofs.OnTheWay.{OnTheWay, at_start, one_more, stopped_there,
 use Rattle.printer.proofs.run_events.Goals as goal
 
 pub loop-run-init : goal.loop-run-init
-loop-run-init g c =
+loop-run-init g c accepted =
     subst (λ (r : Run). OnTheWay c.args.file.now r (g.W.Write.contents c.args.out.now) (g.W.Write.contents c.args.out.now)) (sym c.start-run.ensures)
-    (at_start c.args.file.now _ c.requires)
+    (at_start c.args.file.now _ accepted)
 
 pub loop-run-smaller : goal.loop-run-smaller
 loop-run-smaller g c =
@@ -17,17 +17,17 @@ loop-run-smaller g c =
     rw c.next_event-event.ensures.next (omega (arith, later))
 
 pub loop-run-preserved : goal.loop-run-preserved
-loop-run-preserved g c = one_more c.loop-run.invariant c.loop-run-test.true c.next_event-event.ensures _ c.in_ok-show.ensures.written
+loop-run-preserved g c accepted = one_more (c.loop-run.invariant accepted) c.loop-run-test.true c.next_event-event.ensures _ c.in_ok-show.ensures.written
 
 pub returns-in_err-show-clause-stopped : goal.returns-in_err-show-clause-stopped
 returns-in_err-show-clause-stopped g c =
     held c.from_residual.result
-    (stopped_there c.loop-run.invariant c.loop-run-test.true c.next_event-event.ensures _ c.in_err-show.ensures.stopped)
+    (λ accepted. stopped_there (c.loop-run.invariant accepted) c.loop-run-test.true c.next_event-event.ensures _ c.in_err-show.ensures.stopped)
 
 pub returns-clause-written : goal.returns-clause-written
 returns-clause-written g c =
-    on_ok c.show-2.result (at_end c.loop-run.invariant c.loop-run-test.false c.last_line.ensures _) c.show-2.ensures.written
+    on_ok c.show-2.result (λ told accepted. at_end (c.loop-run.invariant accepted) c.loop-run-test.false c.last_line.ensures _ told) c.show-2.ensures.written
 
 pub returns-clause-stopped : goal.returns-clause-stopped
 returns-clause-stopped g c =
-    on_err c.show-2.result (stopped_at_end c.loop-run.invariant c.loop-run-test.false c.last_line.ensures _) c.show-2.ensures.stopped
+    on_err c.show-2.result (λ part accepted. stopped_at_end (c.loop-run.invariant accepted) c.loop-run-test.false c.last_line.ensures _ part) c.show-2.ensures.stopped
