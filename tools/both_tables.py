@@ -5,7 +5,8 @@
     python3 tools/both_tables.py file FILE             what a schedule file prints, to hold this machine to crates/vectors/stdout
 
 It was written from the algorithm's routines, not from the code of the crates: a request is a coroutine that pauses before each access to
-shared data, and a step lets it run to the next pause. It knows one table alone, so it cannot find the two tables different: that count is 0.
+shared data, and a step lets it run to the next pause. It knows one table alone, so it cannot find the two tables different: that count is 0. What
+is to be said of other numbers of words than 512 stands here as text, by the rule that such words are refused with 4.
 """
 import sys
 
@@ -370,6 +371,8 @@ def show_lengths():
 
 
 def main():
+    if len(sys.argv) < 3 or sys.argv[1] not in ("tables", "file"):
+        sys.exit(__doc__)
     if sys.argv[1] == "file":
         show_file(open(sys.argv[2], "rb").read())
         return
