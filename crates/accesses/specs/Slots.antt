@@ -14,7 +14,7 @@ set_found (r ∷ rows) zero found h = ap (λ (l : Row). l ∷ rows) (sym h)
 set_found (r ∷ rows) (suc i) found h = ap (λ (l : List Row). r ∷ l) (set_found rows i found h)
 
 -- what stands at an index within a list is the same for every default
-pub get_d_any : {A : Type 0} (xs : List A) (i : ℕ) (d e : A) → i < length xs → get_or xs i d ≡ get_or xs i e
-get_d_any [] i d e h = absurd (not-suc-le-zero h)
-get_d_any (x ∷ xs) zero d e h = refl
-get_d_any (x ∷ xs) (suc i) d e h = get_d_any xs i d e (le_of_suc-le-suc h)
+pub get_or_any : {A : Type 0} (xs : List A) (i : ℕ) (d e : A) → i < length xs → get_or xs i d ≡ get_or xs i e
+get_or_any [] i d e h = absurd (not-suc-le-zero h)
+get_or_any (x ∷ xs) zero d e h = refl
+get_or_any (x ∷ xs) (suc i) d e h = get_or_any xs i d e (le_of_suc-le-suc h)

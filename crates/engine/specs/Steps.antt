@@ -9,7 +9,7 @@ use Rattle.model.specs.declared.Effect.{Effect}
 use Rattle.model.specs.declared.Catalogue.{Catalogue}
 use Rattle.model.specs.declared.Stepped.{Stepped}
 use Rattle.model.specs.declared.Refusal.TheVariants.{WorkerIdle, NinthHelp}
-use Rattle.accesses.specs.Slots.{get_d_any}
+use Rattle.accesses.specs.Slots.{get_or_any}
 use Rattle.accesses.specs.Slots.{row_slot}
 
 -- what `row_or_free` gives for what stands at the slot of the row n is the row n
@@ -26,7 +26,7 @@ then_stored before rows after q row first second = second ∙ ap (λ (l : List R
 
 -- what the code reads at the worker's index is the worker's own
 pub idle_found : (workers : List Worker) (w : ℕ) (d : Worker) (b : Bool) → w < length workers → idle (get_or workers w d).line ≡ b → idle (worker_at workers w).line ≡ b
-idle_found workers w d b inside i = ap (λ (k : Worker). idle k.line) (get_d_any workers w _ d inside) ∙ i
+idle_found workers w d b inside i = ap (λ (k : Worker). idle k.line) (get_or_any workers w _ d inside) ∙ i
 
 -- A step of worker w, whose record is k: one law for each way out.
 module _ (c : Catalogue) (w : ℕ) (k : Worker) (its : worker_at c.workers w ≡ k) where

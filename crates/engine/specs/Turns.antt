@@ -11,7 +11,7 @@ use Rattle.model.specs.declared.Stepped.{Stepped}
 use Rattle.model.specs.declared.Turned.{Turned}
 use Rattle.model.specs.declared.Verdict.{Verdict}
 use Rattle.model.specs.declared.Verdict.TheVariants.{Accepted}
-use Rattle.accesses.specs.Slots.{get_d_any}
+use Rattle.accesses.specs.Slots.{get_or_any}
 
 pub turn_start : (w b : ℕ) (c : Catalogue) → turn_from w b 0 c ≡ turn_from w (b - 0) 0 c
 turn_start w b c = rw sub-zero
@@ -22,7 +22,7 @@ ends v n c k = record { verdict = v; steps = n; state = c; lent = k }
 
 module _ (w b n : ℕ) (c : Catalogue) (d : Worker) (inside : w < length c.workers) where
   its : worker_at c.workers w ≡ get_or c.workers w d
-  its = get_d_any c.workers w _ d inside
+  its = get_or_any c.workers w _ d inside
 
   left : n < b → b - n ≡ suc (b - (n + 1))
   left h = omega arith

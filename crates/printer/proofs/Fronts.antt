@@ -1,5 +1,5 @@
 -- A first part of some bytes: nothing of them, a part of them behind others, and the same of longer bytes.
-use Rattle.std.specs.Prelude.{◌≡◌, ℕ, ◌+◌, ◌-◌, List, [], ◌++◌, length, take, drop, refl, None, Some, Result, Ok, Err, OnOk, OnErr}
+use Rattle.std.specs.Prelude.{◌≡◌, ℕ, ◌+◌, ◌-◌, List, [], ◌++◌, length, take, drop, refl, None, Some}
 use Rattle.std.proofs.Common.{sym, ap, ◌∙◌, subst, append_assoc, arith, length-drop, take_all, take-append-drop}
 use Rattle.std.proofs.Math.Seq.{take-add}
 use Rattle.std.specs.declared.option.Option.{Option}
@@ -35,16 +35,3 @@ kept None b c bs before keeps = tt
 kept (Some x) None c bs before keeps = absurd before
 kept (Some x) (Some y) None bs before keeps = absurd keeps
 kept (Some x) (Some y) (Some z) bs before keeps = keeps ∙ before
-
--- what holds, holds on Err; and what holds on Ok, or on Err, by what holds there
-pub held : {T E P : Type 0} (r : Result T E) → P → OnErr r P
-held (Ok x) p = tt
-held (Err e) p = p
-
-pub on_ok : {T E P Q : Type 0} (r : Result T E) → (P → Q) → OnOk r P → OnOk r Q
-on_ok (Ok x) f p = f p
-on_ok (Err e) f p = tt
-
-pub on_err : {T E P Q : Type 0} (r : Result T E) → (P → Q) → OnErr r P → OnErr r Q
-on_err (Ok x) f p = tt
-on_err (Err e) f p = f p

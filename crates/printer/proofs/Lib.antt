@@ -1,3 +1,4 @@
+pub mod OnResults
 pub mod Fronts
 pub mod OnTheWay
-pub mod Whole
+pub mod LongInputs

@@ -7,7 +7,6 @@ use Rattle.std.proofs.KnownBytes.{Appends-nil, Appends-trans}
 use Rattle.schedule.specs.declared.text.Text.{Text}
 use Rattle.schedule.specs.declared.run.Run.{Run}
 use Rattle.schedule.specs.declared.run.Event.{Event}
-use Rattle.model.specs.State.{empty_catalogue}
 use Rattle.model.specs.Schedule.{body, calls_from, calls_of, file_verdict}
 use Rattle.model.specs.Printed.{heading, last_line, run_text, refused_file, file_text, printed}
 use Rattle.model.specs.declared.Verdict.TheVariants.{Accepted, Refused}
@@ -15,12 +14,8 @@ use Rattle.model.specs.declared.Refusal.{Refusal}
 use Rattle.schedule.specs.Shown.{shown, Shows}
 use Rattle.schedule.specs.Events.{start_run, Happens}
 use Rattle.schedule.proofs.Whole.{event_prints, still_enough, last_prints, accepted_short, refused_prints}
-use Rattle.printer.specs.Written.{AppendsFront}
+use Rattle.printer.specs.Written.{AppendsFront, all_lines}
 use Rattle.printer.proofs.Fronts.{behind, longer}
-
--- the lines of the events and the last line
-abbrev pub all_lines : List ℕ → List ℕ
-all_lines file = run_text 1 empty_catalogue (calls_of file)
 
 abbrev left_to_print : List ℕ → Run → ℕ → List ℕ
 left_to_print file r tries = run_text r.event r.state (calls_from tries (drop r.at file))

@@ -9,11 +9,10 @@ mod output;
 
 ghost use Rattle.std.specs.Prelude.{◌≡◌, IfSome, IfOk, OnOk, OnErr};
 ghost use Rattle.std.specs.Io.KnownBytes.{Appends};
-ghost use Rattle.model.specs.State.{empty_catalogue};
-ghost use Rattle.model.specs.Schedule.{file_verdict, calls_of};
-ghost use Rattle.model.specs.Printed.{run_text, printed};
+ghost use Rattle.model.specs.Schedule.{file_verdict};
+ghost use Rattle.model.specs.Printed.{printed};
 ghost use Rattle.model.specs.declared.Verdict.TheVariants.{Accepted};
-ghost use Rattle.printer.specs.Written.{AppendsFront};
+ghost use Rattle.printer.specs.Written.{AppendsFront, all_lines};
 
 pub use input::read_full;
 use model::Verdict;
@@ -24,8 +23,8 @@ use std::io::{Read, Write};
 
 // Each event, one after another, and the last line: of a file that is not refused these are the lines of its run.
 fn run_events<W: Write>(out: &mut W, file: &[u8]) -> io::Result<()>
-    ensures written { OnOk result (file_verdict file.now ≡ Accepted → Appends (W.contents out.old) (W.contents out.new) (run_text 1 empty_catalogue (calls_of file.now))) }
-    ensures stopped { OnErr result (file_verdict file.now ≡ Accepted → AppendsFront (W.contents out.old) (W.contents out.new) (run_text 1 empty_catalogue (calls_of file.now))) }
+    ensures written { OnOk result (file_verdict file.now ≡ Accepted → Appends (W.contents out.old) (W.contents out.new) (all_lines file.now)) }
+    ensures stopped { OnErr result (file_verdict file.now ≡ Accepted → AppendsFront (W.contents out.old) (W.contents out.new) (all_lines file.now)) }
 {
     let mut run = Run::start();
     while run.at < file.len() {

@@ -1,6 +1,6 @@
 -- What a whole run prints: the heading, the lines of the events one after another, and the last line are every byte that the model
 -- prints for the file, whatever values the functions give back that their contracts allow.
-use Rattle.std.specs.Prelude.{if◌then◌else◌, ◌≡◌, ℕ, zero, suc, ◌+◌, ◌-◌, ◌%◌, ◌^◌, ◌<◌, ◌≤◌, Bool, true, false, not, List, [], ◌∷◌, ◌++◌, length, drop, ◌==◌, nat_lt, refl}
+use Rattle.std.specs.Prelude.{if◌then◌else◌, ◌≡◌, ℕ, zero, suc, ◌+◌, ◌-◌, ◌^◌, ◌<◌, ◌≤◌, Bool, true, false, not, List, [], ◌∷◌, ◌++◌, length, drop, ◌==◌, nat_lt, refl}
 use Rattle.std.proofs.Common.{ap, sym, ◌∙◌, append_assoc, arith, length-drop, drop_of_length-le, ltb-false, eqb-true}
 use Rattle.std.proofs.lemmas.Bool.{not-false}
 use Rattle.model.specs.Schedule.{stated_length, body, records_fit, byte_at, calls_from, calls_of, file_verdict}
@@ -26,26 +26,27 @@ calls_step : (tries : ℕ) (file : List ℕ) (at : ℕ) → at < length file
 unfolding calls_from
 calls_step tries file at h = rw (left_at file at h, left_after file at)
 
--- What is left to print where a record is left, and what after its event. The tries are as many as the bytes that are left, and the event
--- numbers fit.
-pub event_prints : {file : List ℕ} {r : Run} {e : Event} → r.at < length file → Happens file r e → (tries : ℕ)
-    → r.event + (length file - r.at) < 2 ^ 32
-    → run_text r.event r.state (calls_from (suc tries) (drop r.at file)) ≡ shown e.text ++ run_text e.run.event e.run.state (calls_from tries (drop e.run.at file))
-unfolding run_text
-event_prints {file} {r} {e} inside h tries fits =
-    let small : (r.event + 1) % 2 ^ 32 ≡ r.event + 1 = omega arith in
-    let stands : e.run ≡ moved file r = h.next ∙ next_inside file r inside in
-    rw (calls_step tries file r.at inside, ← line_inside file r inside, ← h.prints.shows, stands, small) refl
+-- Where a record is left. The tries are as many as the bytes that are left, and the event numbers fit.
+module _ {file : List ℕ} {r : Run} {e : Event} (inside : r.at < length file) (happens : Happens file r e) where
+  stands : e.run ≡ moved file r
+  stands = happens.next ∙ next_inside file r inside
 
--- the same where the run stands after that event
-pub still_enough : {file : List ℕ} {r : Run} {e : Event} → r.at < length file → Happens file r e → (tries : ℕ) → length file - r.at ≤ suc tries
-    → r.event + (length file - r.at) < 2 ^ 32
-    → (length file - e.run.at ≤ tries) × (e.run.event + (length file - e.run.at) < 2 ^ 32)
-still_enough {file} {r} {e} inside h tries enough fits =
-    let small : (r.event + 1) % 2 ^ 32 ≡ r.event + 1 = omega arith in
-    let stands : e.run ≡ moved file r = h.next ∙ next_inside file r inside in
-    (rw stands (omega arith), rw stands (omega arith))
+  -- every event counts
+  counted : r.event + (length file - r.at) < 2 ^ 32 → (moved file r).event ≡ r.event + 1
+  counted fits = omega arith
 
+  -- what is left to print is the line of its event, and what is left after that
+  pub event_prints : (tries : ℕ) → r.event + (length file - r.at) < 2 ^ 32
+      → run_text r.event r.state (calls_from (suc tries) (drop r.at file)) ≡ shown e.text ++ run_text e.run.event e.run.state (calls_from tries (drop e.run.at file))
+  unfolding run_text
+  event_prints tries fits = rw (calls_step tries file r.at inside, ← line_inside file r inside, ← happens.prints.shows, stands, counted fits) refl
+
+  -- and the tries are still enough, and the event numbers still fit
+  pub still_enough : (tries : ℕ) → length file - r.at ≤ suc tries → r.event + (length file - r.at) < 2 ^ 32
+      → (length file - e.run.at ≤ tries) × (e.run.event + (length file - e.run.at) < 2 ^ 32)
+  still_enough tries enough fits = (rw stands (omega arith), rw stands (omega (arith, counted fits)))
+
+-- Where none is left.
 pub last_prints : (file : List ℕ) (r : Run) → length file ≤ r.at → (tries : ℕ)
     → run_text r.event r.state (calls_from tries (drop r.at file)) ≡ last_line r.state
 unfolding run_text

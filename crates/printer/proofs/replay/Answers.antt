@@ -1,6 +1,6 @@
 -- A refused file is one line, an accepted one the heading and the lines of its run; a write that stops leaves a first part of them.
 use Rattle.std.proofs.Common.{sym}
-use Rattle.printer.proofs.Fronts.{held}
+use Rattle.printer.proofs.OnResults.{held}
 use Rattle.printer.proofs.OnTheWay.{all_told, stopped_in_heading, stopped_in_lines, refused_told, stopped_in_refusal}
 use Rattle.printer.proofs.replay.Goals as goal
 

@@ -1,6 +1,6 @@
 -- What was read is enough of the input.
 use Rattle.std.proofs.Common.{◌<◌, arith, length}
-use Rattle.printer.proofs.Whole.{input_verdict, input_written, input_stopped}
+use Rattle.printer.proofs.LongInputs.{input_verdict, input_written, input_stopped}
 use Rattle.printer.proofs.replay_from.Goals as goal
 
 pub returns-clause-verdict : goal.returns-clause-verdict

@@ -2,7 +2,7 @@
 use Rattle.std.proofs.Common.{arith, sym, subst}
 use Rattle.schedule.specs.declared.run.Run.{Run}
 use Rattle.schedule.specs.Events.{next_later}
-use Rattle.printer.proofs.Fronts.{held, on_ok, on_err}
+use Rattle.printer.proofs.OnResults.{held, on_ok, on_err}
 use Rattle.printer.proofs.OnTheWay.{OnTheWay, at_start, one_more, stopped_there, at_end, stopped_at_end}
 use Rattle.printer.proofs.run_events.Goals as goal
 

@@ -1,7 +1,7 @@
 -- 1, 4 for words that pack no well-formed state, else the step of the worker's record, put back in its place.
 use Rattle.std.proofs.Common.{◌∙◌, ◌<◌, sym, length, arith}
 use Rattle.model.specs.declared.Call.TheVariants.{Step}
-use Rattle.accesses.specs.Slots.{get_d_any}
+use Rattle.accesses.specs.Slots.{get_or_any}
 use Rattle.packing.specs.Tables.{packs_rows_lem}
 use Rattle.packing.specs.WellFormedWords.{packed_well_told}
 use Rattle.packed.specs.Calls.{no_worker, not_well, step_gives}
@@ -20,7 +20,7 @@ pub returns-then-packed_well : goal.returns-then-packed_well
 returns-then-packed_well c =
     let a = c.args in
     let inside : a.worker < length a.workers = omega arith in
-    let steps = c.step_worker-moved.ensures a.workers (get_d_any a.workers a.worker _ _ inside) in
+    let steps = c.step_worker-moved.ensures a.workers (get_or_any a.workers a.worker _ _ inside) in
     step_gives a.words.now a.workers a.worker _ _ c.if-worker-gt7.false (sym c.packed_well.ensures ∙ c.if-packed_well.true) steps
 
 pub returns : goal.returns

@@ -1,6 +1,7 @@
 -- What a write takes stands behind what was written before; one that fails leaves that.
 use Rattle.std.proofs.Common.{◌+◌, arith, length-drop}
-use Rattle.printer.proofs.Fronts.{so_far, n_more, kept, held}
+use Rattle.printer.proofs.OnResults.{held}
+use Rattle.printer.proofs.Fronts.{so_far, n_more, kept}
 use Rattle.printer.proofs.output.write_bytes.Goals as goal
 
 pub returns-in_err-n-clause-stopped : goal.returns-in_err-n-clause-stopped
