@@ -12,41 +12,35 @@ use model::{
 pub fn go(line: Line) -> Effect
     ensures { result ≡ go line }
 {
-    Effect {
-        line: line,
-        write: Write::NoRow,
-        stack: Stack::Keep,
-    }
+    go_writing(Write::NoRow, line)
 }
 
 pub fn go_writing(write: Write, line: Line) -> Effect
     ensures { result ≡ go_writing write line }
 {
     Effect {
-        line: line,
-        write: write,
+        line,
+        write,
         stack: Stack::Keep,
     }
 }
 
-pub fn finish(a: Answer) -> Effect
-    ensures { result ≡ finish a }
+pub fn finish(answer: Answer) -> Effect
+    ensures { result ≡ finish answer }
 {
-    go(Line::Idle(a))
+    go(Line::Idle(answer))
 }
 
 pub fn call_search_from(key: u32, element: u32, curr: u8, caller: SearchCaller) -> Line
     ensures { result ≡ call_search_from key element curr caller }
 {
-    Line::Search(
-        SearchLine::SearchFrom1,
-        SearchFrame {
-            key,
-            element,
-            curr,
-            caller,
-        },
-    )
+    let frame = SearchFrame {
+        key,
+        element,
+        curr,
+        caller,
+    };
+    Line::Search(SearchLine::SearchFrom1, frame)
 }
 
 pub fn call_try_flag(key: u32, prev: u8, target: u8) -> Line
@@ -58,14 +52,12 @@ pub fn call_try_flag(key: u32, prev: u8, target: u8) -> Line
 pub fn call_help_flagged(key: u32, element: u32, prev: u8, del: u8, caller: HelpCaller) -> Line
     ensures { result ≡ call_help_flagged key element prev del caller }
 {
-    Line::Help(
-        HelpLine::HelpFlagged1,
-        HelpFrame {
-            key,
-            element,
-            prev,
-            del,
-            caller,
-        },
-    )
+    let frame = HelpFrame {
+        key,
+        element,
+        prev,
+        del,
+        caller,
+    };
+    Line::Help(HelpLine::HelpFlagged1, frame)
 }

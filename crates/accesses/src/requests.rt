@@ -10,10 +10,7 @@ use model::{Line, SearchCaller};
 pub fn is_request(code: u32) -> bool
     ensures { result ≡ is_request code }
 {
-    if code == 0 {
-        return false;
-    }
-    code <= 3
+    matches!(code, 1..=3)
 }
 
 // The private work before a request's first access.
@@ -21,11 +18,9 @@ pub fn is_request(code: u32) -> bool
 pub fn first_line(code: u32, key: u32, element: u32) -> Line
     ensures { result ≡ first_line code key element }
 {
-    if code == 1 {
-        return call_search_from(key, 0, 0, SearchCaller::Search1);
+    match code {
+        1 => call_search_from(key, 0, 0, SearchCaller::Search1),
+        2 => call_search_from(key, element, 0, SearchCaller::Insert1),
+        _ => call_search_from(key, 0, 0, SearchCaller::Delete1),
     }
-    if code == 2 {
-        return call_search_from(key, element, 0, SearchCaller::Insert1);
-    }
-    call_search_from(key, 0, 0, SearchCaller::Delete1)
 }

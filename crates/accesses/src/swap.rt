@@ -1,11 +1,11 @@
-// C&S on a row's successor, the row being given by its number and what stands there.
+// C&S on a row's successor.
 
-ghost use Rattle.std.specs.Prelude.{◌≡◌, List};
-ghost use Rattle.model.specs.State.{row_at, succ_of};
-ghost use Rattle.model.specs.Cas.{same_bit, same_succ, flagged_only, with_succ, cas};
-ghost use Rattle.model.specs.declared.Row.{Row};
+ghost use Rattle.std.specs.Prelude.{◌≡◌};
+ghost use Rattle.model.specs.State.{succ_of};
+ghost use Rattle.model.specs.Cas.{same_succ, flagged_only, with_succ, cas};
 
 use model::{Row, Succ, Write};
+use tables::Table;
 
 pub fn succ_of(right: u8, mark: bool, flag: bool) -> Succ
     ensures { result ≡ succ_of right mark flag }
@@ -13,24 +13,12 @@ pub fn succ_of(right: u8, mark: bool, flag: bool) -> Succ
     Succ { right, mark, flag }
 }
 
-fn same_bit(a: bool, b: bool) -> bool
-    ensures { result ≡ same_bit a b }
-{
-    if a { b } else { !b }
-}
-
+// C&S compares all three parts.
 #[tactic(auto, unfolding(model::specs::Cas::same_succ))]
 pub fn same_succ(a: Succ, b: Succ) -> bool
     ensures { result ≡ same_succ a b }
 {
-    let marks = same_bit(a.mark, b.mark);
-    let flags = same_bit(a.flag, b.flag);
-    if a.right == b.right {
-        if marks {
-            return flags;
-        }
-    }
-    false
+    a == b
 }
 
 // "(*, 0, 1)"
@@ -38,24 +26,22 @@ pub fn same_succ(a: Succ, b: Succ) -> bool
 pub fn flagged_only(s: Succ) -> bool
     ensures { result ≡ flagged_only s }
 {
-    if s.mark { false } else { s.flag }
+    !s.mark && s.flag
 }
 
 pub fn with_succ(row: Row, succ: Succ) -> Row
     ensures { result ≡ with_succ row succ }
 {
-    let mut after = row;
-    after.succ = succ;
-    after
+    Row { succ, ..row }
 }
 
-// What C&S at row i from `old` to `new` writes. Its result is the successor that `row` came with.
+// What C&S at row i from `old` to `new` writes. Its result is the successor that stands there.
 #[tactic(auto, unfolding(model::specs::Cas::cas))]
-pub fn cas(i: u8, row: Row, old: Succ, new: Succ) -> Write
-    ensures { (rows : List Row) → row_at rows i ≡ row → result ≡ cas rows i old new }
+pub fn cas<T: Table>(table: &T, i: u8, old: Succ, new: Succ) -> Write
+    ensures { result ≡ cas (T.rows table.now) i old new }
 {
-    let found = row.succ;
-    if same_succ(found, old) {
+    let row = table.row(i);
+    if same_succ(row.succ, old) {
         return Write::OneRow(i, with_succ(row, new));
     }
     Write::NoRow

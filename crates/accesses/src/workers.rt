@@ -1,52 +1,21 @@
-// A worker's record: whether it is idle, its pending helps, and the record with which a line begins.
+// A worker's record: whether it is idle, and its pending helps.
 
-ghost use Rattle.std.specs.Prelude.{◌-◌, ◌≡◌, set};
-ghost use Rattle.model.specs.State.{fresh_worker, help_at, idle};
+ghost use Rattle.std.specs.Prelude.{◌≡◌, set};
+ghost use Rattle.model.specs.State.{help_at, idle};
 ghost use Rattle.model.specs.Step.{ninth_help};
 
-use model::{Catalogue, Line, Pending, Stack, Worker};
+use model::{Catalogue, Line, Pending, Stack};
 
 pub fn is_idle(line: Line) -> bool
     ensures { result ≡ idle line }
 {
-    match line {
-        Line::Idle(_) => true,
-        Line::Search(_, _) => false,
-        Line::Insert(_, _) => false,
-        Line::Flag(_, _) => false,
-        Line::Help(_, _) => false,
-    }
-}
-
-// A worker at a line, all other registers zero.
-pub fn fresh_worker(line: Line) -> Worker
-    ensures { result ≡ fresh_worker line }
-{
-    let none = Pending { prev: 0, del: 0 };
-    Worker {
-        line: line,
-        helps: [none; Catalogue::HELPS],
-        count: 0,
-    }
-}
-
-pub fn one_less(n: u8) -> u8
-    ensures { result ≡ n - 1 }
-{
-    if n == 0 {
-        return 0;
-    }
-    n - 1
+    matches!(line, Line::Idle(_))
 }
 
 pub fn help_at(helps: [Pending; Catalogue::HELPS], i: u8) -> Pending
     ensures { result ≡ help_at helps i }
 {
-    let j = i as usize;
-    if j < Catalogue::HELPS {
-        return helps[j];
-    }
-    Pending { prev: 0, del: 0 }
+    helps.get(usize::from(i)).copied().unwrap_or_default()
 }
 
 pub fn with_help(
@@ -57,12 +26,11 @@ pub fn with_help(
     ensures { result ≡ set helps i help }
 {
     let mut after = helps;
-    let j = i as usize;
-    if j < Catalogue::HELPS {
-        after[j] = help;
-        return after;
+    let slot = usize::from(i);
+    if slot < Catalogue::HELPS {
+        after[slot] = help;
     }
-    helps
+    after
 }
 
 #[tactic(auto, unfolding(model::specs::Step::ninth_help))]
@@ -70,8 +38,7 @@ pub fn ninth_help(count: u8, stack: Stack) -> bool
     ensures { result ≡ ninth_help count stack }
 {
     match stack {
-        Stack::Keep => false,
         Stack::Push(_) => 8 <= count,
-        Stack::Pop => false,
+        Stack::Keep | Stack::Pop => false,
     }
 }

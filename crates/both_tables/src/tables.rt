@@ -31,8 +31,8 @@ pub fn start() -> Tables {
 // 0, or the refusal's number.
 pub fn verdict_number(v: Verdict) -> u32 {
     match v {
-        Verdict::Accepted => 0,
-        Verdict::Refused(r) => schedule::refusal_number(r),
+        Ok(()) => 0,
+        Err(r) => schedule::refusal_number(r),
     }
 }
 

@@ -9,8 +9,8 @@ use Rattle.model.specs.declared.Worker.{Worker}
 use Rattle.model.specs.declared.Catalogue.{Catalogue}
 use Rattle.model.specs.declared.Stepped.{Stepped}
 use Rattle.model.specs.declared.Turned.{Turned}
-use Rattle.model.specs.declared.Verdict.{Verdict}
-use Rattle.model.specs.declared.Verdict.TheVariants.{Accepted}
+use Rattle.model.specs.Verdict.{Verdict}
+use Rattle.std.specs.Prelude.{Ok}
 use Rattle.accesses.specs.Slots.{get_or_any}
 
 pub turn_start : (w b : ℕ) (c : Catalogue) → turn_from w b 0 c ≡ turn_from w (b - 0) 0 c
@@ -27,7 +27,7 @@ module _ (w b n : ℕ) (c : Catalogue) (d : Worker) (inside : w < length c.worke
   left : n < b → b - n ≡ suc (b - (n + 1))
   left h = omega arith
 
-  pub turn_idle : n < b → idle (get_or c.workers w d).line ≡ true → ends Accepted n c (get_or c.workers w d) ≡ turn_from w (b - n) n c
+  pub turn_idle : n < b → idle (get_or c.workers w d).line ≡ true → ends (Ok tt) n c (get_or c.workers w d) ≡ turn_from w (b - n) n c
   unfolding turn_from
   turn_idle h i = rw (left h) (simp (its, i))
 
@@ -40,6 +40,6 @@ module _ (w b n : ℕ) (c : Catalogue) (d : Worker) (inside : w < length c.worke
     unfolding turn_from
     turn_goes a = rw (left h) (simp (its, busy, ← taken, a))
 
-  pub turn_spent : b ≤ n → ends Accepted n c (get_or c.workers w d) ≡ turn_from w (b - n) n c
+  pub turn_spent : b ≤ n → ends (Ok tt) n c (get_or c.workers w d) ≡ turn_from w (b - n) n c
   unfolding turn_from
   turn_spent h = let z : b - n ≡ 0 = omega arith in rw z (simp its)

@@ -118,7 +118,7 @@ pub fn step_worker(state: Catalogue, w: u8) -> Stepped
     let line = k.line;
     if is_idle(line) {
         return Stepped {
-            verdict: Verdict::Refused(Refusal::WorkerIdle),
+            verdict: Err(Refusal::WorkerIdle),
             state: after,
         };
     }
@@ -138,7 +138,7 @@ pub fn step_worker(state: Catalogue, w: u8) -> Stepped
     let stack = effect.stack;
     if ninth_help(k.count, stack) {
         return Stepped {
-            verdict: Verdict::Refused(Refusal::NinthHelp),
+            verdict: Err(Refusal::NinthHelp),
             state: after,
         };
     }
@@ -147,7 +147,7 @@ pub fn step_worker(state: Catalogue, w: u8) -> Stepped
     let write = effect.write;
     match write {
         Write::NoRow => Stepped {
-            verdict: Verdict::Accepted,
+            verdict: Ok(()),
             state: after,
         },
         Write::OneRow(p, row) => {
@@ -156,7 +156,7 @@ pub fn step_worker(state: Catalogue, w: u8) -> Stepped
             let stored = row_after(p, row, found);
             after.rows[slot] = stored;
             Stepped {
-                verdict: Verdict::Accepted,
+                verdict: Ok(()),
                 state: after,
             }
         }
@@ -170,7 +170,7 @@ pub fn step_worker(state: Catalogue, w: u8) -> Stepped
             let q_stored = row_after(q, other, q_found);
             after.rows[q_slot] = q_stored;
             Stepped {
-                verdict: Verdict::Accepted,
+                verdict: Ok(()),
                 state: after,
             }
         }
@@ -184,7 +184,7 @@ pub fn step(state: Catalogue, worker: u32) -> Stepped
 {
     if 7 < worker {
         return Stepped {
-            verdict: Verdict::Refused(Refusal::NoSuchWorker),
+            verdict: Err(Refusal::NoSuchWorker),
             state: state,
         };
     }
@@ -192,7 +192,7 @@ pub fn step(state: Catalogue, worker: u32) -> Stepped
         return step_worker(state, worker as u8);
     }
     Stepped {
-        verdict: Verdict::Refused(Refusal::NotWellFormed),
+        verdict: Err(Refusal::NotWellFormed),
         state: state,
     }
 }
@@ -207,7 +207,7 @@ pub fn submit(state: Catalogue, worker: u32, code: u32, key: u32, element: u32) 
     let mut after = state;
     if 7 < worker {
         return Stepped {
-            verdict: Verdict::Refused(Refusal::NoSuchWorker),
+            verdict: Err(Refusal::NoSuchWorker),
             state: after,
         };
     }
@@ -220,22 +220,22 @@ pub fn submit(state: Catalogue, worker: u32, code: u32, key: u32, element: u32) 
                 let begun = fresh_worker(first_line(code, key, element));
                 after.workers[j] = begun;
                 return Stepped {
-                    verdict: Verdict::Accepted,
+                    verdict: Ok(()),
                     state: after,
                 };
             }
             return Stepped {
-                verdict: Verdict::Refused(Refusal::WorkerBusy),
+                verdict: Err(Refusal::WorkerBusy),
                 state: after,
             };
         }
         return Stepped {
-            verdict: Verdict::Refused(Refusal::NoSuchRequest),
+            verdict: Err(Refusal::NoSuchRequest),
             state: after,
         };
     }
     Stepped {
-        verdict: Verdict::Refused(Refusal::NotWellFormed),
+        verdict: Err(Refusal::NotWellFormed),
         state: after,
     }
 }

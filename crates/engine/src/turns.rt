@@ -13,8 +13,8 @@ fn accepted(verdict: Verdict) -> bool
     ensures { result ≡ accepted verdict }
 {
     match verdict {
-        Verdict::Accepted => true,
-        Verdict::Refused(_) => false,
+        Ok(()) => true,
+        Err(_) => false,
     }
 }
 
@@ -31,7 +31,7 @@ fn turn_from(state: Catalogue, w: u8, budget: u32) -> Turned
         let line = k.line;
         if is_idle(line) {
             return Turned {
-                verdict: Verdict::Accepted,
+                verdict: Ok(()),
                 steps: n,
                 state: now,
                 lent: k,
@@ -54,7 +54,7 @@ fn turn_from(state: Catalogue, w: u8, budget: u32) -> Turned
     }
     let k = now.workers[j];
     Turned {
-        verdict: Verdict::Accepted,
+        verdict: Ok(()),
         steps: n,
         state: now,
         lent: k,
@@ -69,7 +69,7 @@ pub fn turn(state: Catalogue, worker: u32, budget: u32, lent: Worker) -> Turned
     let mut now = state;
     if 7 < worker {
         return Turned {
-            verdict: Verdict::Refused(Refusal::NoSuchWorker),
+            verdict: Err(Refusal::NoSuchWorker),
             steps: 0,
             state: now,
             lent: lent,
@@ -79,7 +79,7 @@ pub fn turn(state: Catalogue, worker: u32, budget: u32, lent: Worker) -> Turned
     now.workers[j] = lent;
     if 8192 < budget {
         return Turned {
-            verdict: Verdict::Refused(Refusal::BudgetTooLarge),
+            verdict: Err(Refusal::BudgetTooLarge),
             steps: 0,
             state: now,
             lent: lent,
@@ -89,7 +89,7 @@ pub fn turn(state: Catalogue, worker: u32, budget: u32, lent: Worker) -> Turned
         let line = lent.line;
         if is_idle(line) {
             return Turned {
-                verdict: Verdict::Refused(Refusal::WorkerIdle),
+                verdict: Err(Refusal::WorkerIdle),
                 steps: 0,
                 state: now,
                 lent: lent,
@@ -98,7 +98,7 @@ pub fn turn(state: Catalogue, worker: u32, budget: u32, lent: Worker) -> Turned
         return turn_from(now, worker as u8, budget);
     }
     Turned {
-        verdict: Verdict::Refused(Refusal::NotWellFormed),
+        verdict: Err(Refusal::NotWellFormed),
         steps: 0,
         state: now,
         lent: lent,

@@ -10,8 +10,8 @@ pub fn field(rt: &impl Print, name: &str, value: u32) -> io::Result<()> {
 // `accepted`, or `r` and the refusal's number.
 pub fn verdict(rt: &impl Print, v: Verdict) -> io::Result<()> {
     match v {
-        Verdict::Accepted => rt.print("accepted"),
-        Verdict::Refused(r) => {
+        Ok(()) => rt.print("accepted"),
+        Err(r) => {
             let n = match r {
                 Refusal::NoSuchWorker => 1,
                 Refusal::WorkerBusy => 2,

@@ -18,8 +18,8 @@ use Rattle.model.specs.declared.Stepped.{Stepped}
 use Rattle.model.specs.declared.Turned.{Turned}
 use Rattle.model.specs.declared.Call.{Call}
 use Rattle.model.specs.declared.Call.TheVariants.{Submit, Step}
-use Rattle.model.specs.declared.Verdict.{Verdict}
-use Rattle.model.specs.declared.Verdict.TheVariants.{Accepted, Refused}
+use Rattle.model.specs.Verdict.{Verdict}
+use Rattle.std.specs.Prelude.{Ok, Err}
 use Rattle.model.specs.declared.Refusal.{Refusal}
 use Rattle.model.specs.declared.Refusal.TheVariants.{NoSuchWorker, WorkerBusy, WorkerIdle, NotWellFormed, NinthHelp, NoSuchRequest, FileVersion, FileLength, FileRecord, FileTooLong, BudgetTooLarge}
 use Rattle.kept.specs.Conditions.{contradiction}
@@ -110,7 +110,7 @@ module _ (c : Catalogue) (w : ℕ) where
       starts (below_eight inside) (not-false _ well) (not-false _ known) (not-false _ rests)))))
 
   pub turn_from_ways : (left n : ℕ) (P : Turned → Type 0)
-      → (idle (line_of c w) ≡ true → P (turn_ends w Accepted n c))
+      → (idle (line_of c w) ≡ true → P (turn_ends w (Ok tt) n c))
       → (idle (line_of c w) ≡ false → accepted (step_worker c w).verdict ≡ true → P (turn_from w left (n + 1) (step_worker c w).state))
       → (idle (line_of c w) ≡ false → accepted (step_worker c w).verdict ≡ false → P (turn_ends w (step_worker c w).verdict n c))
       → P (turn_from w (suc left) n c)
@@ -138,12 +138,12 @@ module _ (c : Catalogue) (w : ℕ) where
 
 -- ---- A call that was refused ----
 
-pub accepted_not_refused : {v : Verdict} {r : Refusal} → v ≡ Accepted → v ≡ Refused r → ⊥
+pub accepted_not_refused : {v : Verdict} {r : Refusal} → v ≡ Ok tt → v ≡ Err r → ⊥
 accepted_not_refused accepts refuses = contradiction (cc)
 
 module _ (c : Catalogue) where
   abbrev Explained : Stepped → Type 0
-  Explained s = (r : Refusal) → s.verdict ≡ Refused r → Because c r
+  Explained s = (r : Refusal) → s.verdict ≡ Err r → Because c r
 
   explains : (q : Refusal) → Because c q → Explained (refuse q c)
   explains q because r e =

@@ -15,8 +15,8 @@ use Rattle.model.specs.WellFormed.{all_from, row_numbers}
 use Rattle.model.specs.Count.{walk, is_save, saves_among, saves, countable, count}
 use Rattle.model.specs.declared.Row.{Row}
 use Rattle.model.specs.declared.Counted.{Counted}
-use Rattle.model.specs.declared.Verdict.{Verdict}
-use Rattle.model.specs.declared.Verdict.TheVariants.{Accepted, Refused}
+use Rattle.model.specs.Verdict.{Verdict}
+use Rattle.std.specs.Prelude.{Ok, Err}
 use Rattle.model.specs.declared.Refusal.TheVariants.{NotWellFormed}
 use Rattle.lent.specs.declared.Walk.{Walk}
 use Rattle.lent.specs.Walk.{counted, over, refused_walk, checking_from, walking_from, started, save_at, save_least, checked, moved, onward}
@@ -34,16 +34,16 @@ unfoldable pub saves_from : List Row → ℕ → ℕ → ℕ
 saves_from rows left at = save_at at (row_at rows at) + (if eqb at tail then 0 else saves_among rows (walk left rows at))
 
 abbrev not_counted : Counted
-not_counted = counted (Refused NotWellFormed) 0
+not_counted = counted (Err NotWellFormed) 0
 
 -- the count of 128 rows
 abbrev count_of_128 : List Row → Counted
-count_of_128 rows = if numbers_from 0 rows then counted Accepted (saves rows) else not_counted
+count_of_128 rows = if numbers_from 0 rows then counted (Ok tt) (saves rows) else not_counted
 
 abbrev pub finish : List Row → Walk → Counted
 finish rows c =
     if c.going
-    then if c.checking then count_of_128 rows else counted Accepted (c.counted.saves + saves_from rows c.left c.at)
+    then if c.checking then count_of_128 rows else counted (Ok tt) (c.counted.saves + saves_from rows c.left c.at)
     else c.counted
 
 -- of a count that goes on: the row that it comes to is there, the saves stay few, and the rows that it has checked have passed
@@ -110,7 +110,7 @@ each_passed k (x ∷ xs) (suc i) l h = each_passed (suc k) xs i (le_of_suc-le-su
 
 start_at : (rows : List Row) (t : Bool) → eqb (length rows) 128 ≡ t
     → Good rows (if t then checking_from 0 else refused_walk)
-    × (finish rows (if t then checking_from 0 else refused_walk) ≡ (if t && numbers_from 0 rows then counted Accepted (saves rows) else not_counted))
+    × (finish rows (if t then checking_from 0 else refused_walk) ≡ (if t && numbers_from 0 rows then counted (Ok tt) (saves rows) else not_counted))
 start_at rows true e =
     ((λ g. record { all = eqb-true _ _ e; inside = omega arith; few = omega arith; passed = refl }), refl)
 start_at rows false e = ((λ g. clash g), refl)
@@ -158,7 +158,7 @@ module _ (rows : List Row) (c : Walk) (all : length rows ≡ 128) (inside : c.at
       record {
         good = λ g. record { all = all; inside = omega arith; few = omega arith; passed = last ok at };
         sooner = omega arith;
-        same = rw (last ok at) (ap (counted Accepted) from_start);
+        same = rw (last ok at) (ap (counted (Ok tt)) from_start);
       })
       (λ e.
       let n : c.at ≡ 127 → ⊥ = eqb-false _ _ e in
@@ -167,7 +167,7 @@ module _ (rows : List Row) (c : Walk) (all : length rows ≡ 128) (inside : c.at
         sooner = omega arith;
         same = refl;
       }))
-      (λ bad. ended_after rows _ _ (Refused NotWellFormed) 0 (rw (rw bad at here) refl) (omega arith))
+      (λ bad. ended_after rows _ _ (Err NotWellFormed) 0 (rw (rw bad at here) refl) (omega arith))
 
 -- a row is counted
 module _ (rows : List Row) (c : Walk) (all : length rows ≡ 128) (inside : c.at < 128) (few : c.counted.saves + c.left ≤ 128) (passed : numbers_from 0 rows ≡ true) where
@@ -178,13 +178,13 @@ module _ (rows : List Row) (c : Walk) (all : length rows ≡ 128) (inside : c.at
   now = c.counted.saves + save_at c.at x
 
   abbrev end : Counted
-  end = counted Accepted (c.counted.saves + saves_from rows c.left c.at)
+  end = counted (Ok tt) (c.counted.saves + saves_from rows c.left c.at)
 
   right_inside : x.succ.right < 128
   right_inside = ltb-true _ _ (both _ _ (each_passed 0 rows c.at (subst (λ (m : ℕ). c.at < m) (sym all) inside) passed)).0
 
-  stops : saves_from rows c.left c.at ≡ save_at c.at x → After rows (suc c.left) end (over Accepted now)
-  stops e = ended_after rows _ end Accepted now (rw e refl) (omega arith)
+  stops : saves_from rows c.left c.at ≡ save_at c.at x → After rows (suc c.left) end (over (Ok tt) now)
+  stops e = ended_after rows _ end (Ok tt) now (rw e refl) (omega arith)
 
   -- with one move fewer
   goes : eqb c.at tail ≡ false → (m : ℕ) → c.left ≡ suc m → After rows (suc c.left) end (walking_from x.succ.right (c.left - 1) now)
@@ -195,7 +195,7 @@ module _ (rows : List Row) (c : Walk) (all : length rows ≡ 128) (inside : c.at
       record {
         good = λ g. record { all = all; inside = right_inside; few = omega arith; passed = passed };
         sooner = omega arith;
-        same = ap (counted Accepted) (omega arith);
+        same = ap (counted (Ok tt)) (omega arith);
       }
 
   move_after : After rows (suc c.left) end (moved c x)
@@ -212,7 +212,7 @@ module _ (rows : List Row) (c : Walk) (all : length rows ≡ 128) (inside : c.at
 
 either_after : (rows : List Row) (c : Walk) (t : Bool) → length rows ≡ 128 → c.at < 128 → c.counted.saves + c.left ≤ 128
     → numbers_from 0 rows ≡ (if t then numbers_from c.at (drop c.at rows) else true)
-    → After rows (if t then 258 - c.at else suc c.left) (if t then count_of_128 rows else counted Accepted (c.counted.saves + saves_from rows c.left c.at))
+    → After rows (if t then 258 - c.at else suc c.left) (if t then count_of_128 rows else counted (Ok tt) (c.counted.saves + saves_from rows c.left c.at))
     (if t then checked c (row_at rows c.at) else moved c (row_at rows c.at))
 either_after rows c true all inside few passed = check_after rows c all inside passed
 either_after rows c false all inside few passed = move_after rows c all inside few passed

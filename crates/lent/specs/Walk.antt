@@ -6,8 +6,8 @@ use Rattle.model.specs.Order.{head, tail}
 use Rattle.model.specs.WellFormed.{row_numbers, is_linked}
 use Rattle.model.specs.declared.Row.{Row}
 use Rattle.model.specs.declared.Counted.{Counted}
-use Rattle.model.specs.declared.Verdict.{Verdict}
-use Rattle.model.specs.declared.Verdict.TheVariants.{Accepted, Refused}
+use Rattle.model.specs.Verdict.{Verdict}
+use Rattle.std.specs.Prelude.{Ok, Err}
 use Rattle.model.specs.declared.Refusal.TheVariants.{NotWellFormed}
 use Rattle.lent.specs.declared.Walk.{Walk}
 
@@ -18,14 +18,14 @@ abbrev pub over : Verdict → ℕ → Walk
 over verdict saves = record { going = false; checking = false; at = 0; left = 0; counted = counted verdict saves }
 
 abbrev pub refused_walk : Walk
-refused_walk = over (Refused NotWellFormed) 0
+refused_walk = over (Err NotWellFormed) 0
 
 abbrev pub checking_from : ℕ → Walk
-checking_from at = record { going = true; checking = true; at = at; left = 128; counted = counted Accepted 0 }
+checking_from at = record { going = true; checking = true; at = at; left = 128; counted = counted (Ok tt) 0 }
 
 -- the walk has come to row `at`, which is not counted yet
 abbrev pub walking_from : ℕ → ℕ → ℕ → Walk
-walking_from at left saves = record { going = true; checking = false; at = at; left = left; counted = counted Accepted saves }
+walking_from at left saves = record { going = true; checking = false; at = at; left = left; counted = counted (Ok tt) saves }
 
 abbrev pub started : ℕ → Walk
 started length = if eqb length 128 then checking_from 0 else refused_walk
@@ -43,8 +43,8 @@ checked c row =
 -- the row is counted; the walk ends at the tail, or where no move is left, or moves right
 abbrev pub moved_with : Walk → Row → ℕ → Walk
 moved_with c row saves =
-    if eqb c.at tail then over Accepted saves
-    else if eqb c.left 0 then over Accepted saves
+    if eqb c.at tail then over (Ok tt) saves
+    else if eqb c.left 0 then over (Ok tt) saves
     else walking_from row.succ.right (c.left - 1) saves
 
 abbrev pub moved : Walk → Row → Walk

@@ -45,7 +45,7 @@ fn checking_from(at: usize) -> Walk
         at: at,
         left: 128,
         counted: Counted {
-            verdict: Verdict::Accepted,
+            verdict: Ok(()),
             saves: 0,
         },
     }
@@ -61,7 +61,7 @@ fn walking_from(at: usize, left: u32, saves: u32) -> Walk
         at: at,
         left: left,
         counted: Counted {
-            verdict: Verdict::Accepted,
+            verdict: Ok(()),
             saves: saves,
         },
     }
@@ -73,7 +73,7 @@ fn start(length: usize) -> Walk
     if length == Catalogue::ROWS {
         return checking_from(0);
     }
-    over(Verdict::Refused(Refusal::NotWellFormed), 0)
+    over(Err(Refusal::NotWellFormed), 0)
 }
 
 // 1 at a row above 1 whose standing is linked.
@@ -98,10 +98,10 @@ fn check_row(c: Walk, row: Row) -> Walk
     ensures { result ≡ checked c row }
 {
     if row.succ.right >= 128 {
-        return over(Verdict::Refused(Refusal::NotWellFormed), 0);
+        return over(Err(Refusal::NotWellFormed), 0);
     }
     if row.backlink >= 128 {
-        return over(Verdict::Refused(Refusal::NotWellFormed), 0);
+        return over(Err(Refusal::NotWellFormed), 0);
     }
     if c.at == 127 {
         return walking_from(0, 128, 0);
@@ -116,10 +116,10 @@ fn move_right(c: Walk, row: Row) -> Walk
 {
     let saves = c.counted.saves + save_at(c.at, row);
     if c.at == 1 {
-        return over(Verdict::Accepted, saves);
+        return over(Ok(()), saves);
     }
     if c.left == 0 {
-        return over(Verdict::Accepted, saves);
+        return over(Ok(()), saves);
     }
     walking_from(row.succ.right as usize, c.left - 1, saves)
 }

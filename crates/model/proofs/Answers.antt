@@ -27,7 +27,7 @@ use Rattle.model.specs.declared.Effect.{Effect}
 use Rattle.model.specs.declared.Stack.{Stack}
 use Rattle.model.specs.declared.Stack.TheVariants.{Keep, Push, Pop}
 use Rattle.model.specs.declared.Stepped.{Stepped}
-use Rattle.model.specs.declared.Verdict.TheVariants.{Accepted}
+use Rattle.std.specs.Prelude.{Ok}
 use Rattle.model.specs.declared.Refusal.{Refusal}
 use Rattle.model.specs.declared.SearchCaller.{SearchCaller}
 use Rattle.model.specs.declared.SearchCaller.TheVariants.{Search1, Insert1, Insert19, Delete1, TryFlag11}
@@ -202,7 +202,7 @@ busy_inside workers w busy = elim (dec_lt w (length workers)) [
 module _ (c : Catalogue) (w : ℕ) where
   -- an accepted call leaves worker w with another line than a fresh one's
   abbrev Finishes : Stepped → Type 0
-  Finishes s = s.verdict ≡ Accepted → NotFresh (worker_at s.state.workers w).line
+  Finishes s = s.verdict ≡ Ok tt → NotFresh (worker_at s.state.workers w).line
 
   refused_finishes : {r : Refusal} → Finishes (refuse r c)
   refused_finishes v finished = let apart : ◌≡◌ {A = ℕ} 0 1 = cc in omega arith
@@ -227,5 +227,5 @@ module _ (c : Catalogue) (w : ℕ) where
   step_finishes =
       if_both Finishes (ltb 7 w) refused_finishes (if_both Finishes (not (well_formed c)) refused_finishes step_worker_finishes)
 
-  pub never_no_answer : (step c w).verdict ≡ Accepted → (worker_at (step c w).state.workers w).line ≢ Idle NoAnswer
+  pub never_no_answer : (step c w).verdict ≡ Ok tt → (worker_at (step c w).state.workers w).line ≢ Idle NoAnswer
   never_no_answer = step_finishes

@@ -17,8 +17,8 @@ use Rattle.model.specs.declared.Answer.TheVariants.{NoAnswer, Found, Added, Dupl
 use Rattle.model.specs.declared.Call.{Call}
 use Rattle.model.specs.declared.Call.TheVariants.{Submit, Step}
 use Rattle.model.specs.declared.Stepped.{Stepped}
-use Rattle.model.specs.declared.Verdict.{Verdict}
-use Rattle.model.specs.declared.Verdict.TheVariants.{Accepted, Refused}
+use Rattle.model.specs.Verdict.{Verdict}
+use Rattle.std.specs.Prelude.{Ok, Err}
 use Rattle.model.specs.declared.Refusal.TheVariants.{NinthHelp}
 use Rattle.model.specs.declared.SearchCaller.{SearchCaller}
 use Rattle.model.specs.declared.SearchCaller.TheVariants.{Search1, Insert1, Insert19, Delete1, TryFlag11}
@@ -99,7 +99,7 @@ row_not_zero = record {
   state = worker0 (fresh_worker (inserting (Insert4 1) 0)) (with_row 2 (row 9 9 3 (succ_of 3 true false) Free) empty_catalogue);
   call = Step 0;
   at = 2;
-  verdict = Accepted;
+  verdict = (Ok tt);
   row = held;
   worker = fresh_worker (inserting (Insert6 1 2) 0);
 }
@@ -113,7 +113,7 @@ store_stays = record {
       (with_row 2 held empty_catalogue)));
   call = Step 0;
   at = 2;
-  verdict = Accepted;
+  verdict = (Ok tt);
   row = row 5 50 0 (succ_of 1 false false) (Held 0);
   worker = fresh_worker (inserting (Insert17 2) 0);
 }
@@ -126,7 +126,7 @@ prev_is_held = record {
       (with_row 2 held empty_catalogue);
   call = Step 0;
   at = 2;
-  verdict = Accepted;
+  verdict = (Ok tt);
   row = row 5 50 0 (succ_of 2 false false) Linked;
   worker = idle_worker Added;
 }
@@ -140,7 +140,7 @@ row_given_back = record {
       (with_row 2 (row 5 50 0 (succ_of 1 false false) (Held 0)) empty_catalogue)));
   call = Step 0;
   at = 2;
-  verdict = Accepted;
+  verdict = (Ok tt);
   row = free_row;
   worker = idle_worker Duplicate;
 }
@@ -157,7 +157,7 @@ backlink_written_over = record {
   state = worker0 (fresh_worker (helping HelpFlagged1 0 2)) flagged;
   call = Step 0;
   at = 2;
-  verdict = Accepted;
+  verdict = (Ok tt);
   row = row 5 50 0 (succ_of 3 false true) Linked;
   worker = fresh_worker (helping HelpFlagged2 0 2);
 }
@@ -168,7 +168,7 @@ eighth_help = record {
   state = worker0 (working (helping (TryMark3 3) 0 2) no_helps 7) flagged;
   call = Step 0;
   at = 2;
-  verdict = Accepted;
+  verdict = (Ok tt);
   row = row 5 50 3 (succ_of 3 false true) Linked;
   worker = working (helping HelpFlagged1 2 3) (set no_helps 7 (pending 0 2)) 8;
 }
@@ -178,7 +178,7 @@ ninth_help_asked = record {
   state = worker0 (working (helping (TryMark3 3) 0 2) unused 8) flagged;
   call = Step 0;
   at = 2;
-  verdict = Refused NinthHelp;
+  verdict = Err NinthHelp;
   row = row 5 50 3 (succ_of 3 false true) Linked;
   worker = working (helping (TryMark3 3) 0 2) unused 8;
 }
@@ -189,7 +189,7 @@ help_taken_up = record {
   state = worker0 (working (helping (HelpMarked2 1) 2 3) (set no_helps 0 (pending 0 2)) 1) flagged;
   call = Step 0;
   at = 2;
-  verdict = Accepted;
+  verdict = (Ok tt);
   row = row 5 50 3 (succ_of 1 false false) Linked;
   worker = fresh_worker (helping TryMark6 0 2);
 }
@@ -200,7 +200,7 @@ submitted code element caller = record {
   state = worker0 (working (Idle (Found 7)) unused 0) empty_catalogue;
   call = Submit 0 code 5 9;
   at = 2;
-  verdict = Accepted;
+  verdict = (Ok tt);
   row = free_row;
   worker = fresh_worker (Search SearchFrom1 (record { key = 5; element = element; curr = 0; caller = caller }));
 }

@@ -12,8 +12,8 @@ use Rattle.model.specs.declared.Pending.{Pending}
 use Rattle.model.specs.declared.Worker.{Worker}
 use Rattle.model.specs.declared.Catalogue.{Catalogue}
 use Rattle.model.specs.declared.Stack.TheVariants.{Push}
-use Rattle.model.specs.declared.Verdict.{Verdict}
-use Rattle.model.specs.declared.Verdict.TheVariants.{Accepted, Refused}
+use Rattle.model.specs.Verdict.{Verdict}
+use Rattle.std.specs.Prelude.{Ok, Err}
 use Rattle.model.specs.declared.Refusal.{Refusal}
 use Rattle.model.specs.declared.Refusal.TheVariants.{NoSuchWorker, WorkerBusy, WorkerIdle, NotWellFormed, NinthHelp, NoSuchRequest, FileVersion, FileLength, FileRecord, FileTooLong, BudgetTooLarge}
 
@@ -24,8 +24,8 @@ pub data Ground : Type 1 where
 
 -- this verdict is the first refusal of the list whose condition holds; `Accepted` if no condition holds
 pub data First : List Ground → Verdict → Type 1 where
-  no_ground : First [] Accepted
-  this_one : {r : Refusal} {P : Type 0} {rest : List Ground} → P → First (r given_when P ∷ rest) (Refused r)
+  no_ground : First [] (Ok tt)
+  this_one : {r : Refusal} {P : Type 0} {rest : List Ground} → P → First (r given_when P ∷ rest) (Err r)
   a_later : {r : Refusal} {P : Type 0} {rest : List Ground} {v : Verdict} → ¬ P → First rest v → First (r given_when P ∷ rest) v
 
 -- ---- Submit: 1, 4, 6, 2 ----
@@ -69,7 +69,7 @@ step_grounds c w = NoSuchWorker given_when (7 < w) ∷ NotWellFormed given_when 
 -- a step that the budget still allows, n steps after state c, would need a ninth pending help
 abbrev pub MeetsNinth : ℕ → ℕ → Catalogue → Type 0
 MeetsNinth w budget c =
-    (n : ℕ) × (d : Catalogue) × Steps (unchecked w) n c d × (n < budget) × ((step_worker d w).verdict ≡ Refused NinthHelp)
+    (n : ℕ) × (d : Catalogue) × Steps (unchecked w) n c d × (n < budget) × ((step_worker d w).verdict ≡ Err NinthHelp)
 
 abbrev pub turn_grounds : Catalogue → ℕ → ℕ → Worker → List Ground
 turn_grounds c w budget lent =

@@ -11,17 +11,17 @@ use Rattle.model.specs.declared.Effect.{Effect}
 use Rattle.model.specs.declared.Stepped.{Stepped}
 use Rattle.model.specs.declared.Call.{Call}
 use Rattle.model.specs.declared.Call.TheVariants.{Submit, Step}
-use Rattle.model.specs.declared.Verdict.TheVariants.{Accepted, Refused}
+use Rattle.std.specs.Prelude.{Ok, Err}
 use Rattle.model.specs.declared.Refusal.{Refusal}
 
 pub record Unchanged (c : Catalogue) (s : Stepped) : Type 0 where
-  pub kept : (r : Refusal) → s.verdict ≡ Refused r → s.state ≡ c
+  pub kept : (r : Refusal) → s.verdict ≡ Err r → s.state ≡ c
 
 refused_unchanged : (r : Refusal) (c : Catalogue) → Unchanged c (refuse r c)
 refused_unchanged r c = record { kept = λ _ _. refl }
 
 accepted_unchanged : (c d : Catalogue) → Unchanged c (accept d)
-accepted_unchanged c d = record { kept = λ r e. let apart : Accepted ≡ Refused r = e in cc }
+accepted_unchanged c d = record { kept = λ r e. let apart : (Ok tt) ≡ Err r = e in cc }
 
 applied_unchanged : (c : Catalogue) (w : ℕ) (k : Worker) (e : Effect) → Unchanged c (applied c w k e)
 unfolding applied
@@ -44,5 +44,5 @@ call_unchanged c (Step w) =
     if_both (Unchanged c) (ltb 7 w) (refused_unchanged _ c)
     (if_both (Unchanged c) (not (well_formed c)) (refused_unchanged _ c) (step_worker_unchanged c w))
 
-pub refused_changes_nothing : (c : Catalogue) (x : Call) (r : Refusal) → (call c x).verdict ≡ Refused r → (call c x).state ≡ c
+pub refused_changes_nothing : (c : Catalogue) (x : Call) (r : Refusal) → (call c x).verdict ≡ Err r → (call c x).state ≡ c
 refused_changes_nothing c x r e = (call_unchanged c x).kept r e

@@ -11,8 +11,8 @@ use Rattle.model.specs.declared.Catalogue.{Catalogue}
 use Rattle.model.specs.declared.Stack.{Stack}
 use Rattle.model.specs.declared.Stack.TheVariants.{Keep, Push, Pop}
 use Rattle.model.specs.declared.Stepped.{Stepped}
-use Rattle.model.specs.declared.Verdict.{Verdict}
-use Rattle.model.specs.declared.Verdict.TheVariants.{Refused}
+use Rattle.model.specs.Verdict.{Verdict}
+use Rattle.std.specs.Prelude.{Err}
 use Rattle.model.specs.declared.Refusal.{Refusal}
 
 -- a choice, each branch of which knows how the test came out
@@ -23,7 +23,7 @@ by_test P false p q = q refl
 -- a choice by a test that decides whether the condition holds
 module _ {A : Type 0} (verdict : A → Verdict) where
   pub test : (b : Bool) {r : Refusal} {P : Type 0} {rest : List Ground} {x y : A} → (b ≡ true → P) → (b ≡ false → ¬ P)
-      → verdict x ≡ Refused r → First rest (verdict y) → First (r given_when P ∷ rest) (verdict (if b then x else y))
+      → verdict x ≡ Err r → First rest (verdict y) → First (r given_when P ∷ rest) (verdict (if b then x else y))
   test true holds fails e later = rw e (this_one (holds refl))
   test false holds fails e later = a_later (fails refl) later
 

@@ -3,14 +3,14 @@ use Rattle.std.specs.Prelude.{ℕ, zero, suc, ◌≤◌, ◌<◌, Bool, true, fa
 use Rattle.std.proofs.Common.{inl, inr, arith, length-drop, ltb-true, ltb-false, leb-true, eqb-true, eq-eqb, ne_eqb, le-leb}
 use Rattle.std.proofs.lemmas.Bool.{eqb-false, not-true, not-false}
 use Rattle.model.specs.WellFormed.{all_from, is_row, row_numbers}
-use Rattle.model.specs.Count.{countable, count}
+use Rattle.model.specs.Count.{countable, count, count_verdict}
 use Rattle.model.specs.Schedule.{byte_at, two_bytes, stated_length, body, record_fits, records_fit, file_verdict}
 use Rattle.model.proofs.RefusalOrder.{First, no_ground, this_one, a_later, NumberAbove, count_grounds, Records, no_record, a_record, file_grounds}
 use Rattle.model.proofs.RefusedCalls.{by_test, test, clash, above, not_above}
 use Rattle.model.specs.declared.Row.{Row}
-use Rattle.model.specs.declared.Counted.{Counted}
-use Rattle.model.specs.declared.Verdict.{Verdict}
-use Rattle.model.specs.declared.Verdict.TheVariants.{Accepted, Refused}
+use Rattle.model.specs.declared.Refusal.{Refusal}
+use Rattle.model.specs.Verdict.{Verdict}
+use Rattle.std.specs.Prelude.{Result, Ok, Err}
 use Rattle.model.specs.declared.Refusal.TheVariants.{NotWellFormed}
 
 -- ---- Tests ----
@@ -56,25 +56,25 @@ one_above k (r ∷ rows) h = either (λ e. one_above (suc k) rows e) (not_both_l
     either later (inl e) = above_here r rows (not_both_lem (is_row r.succ.right) (is_row r.backlink) e)
     either later (inr e) = above_there r rows (later e)
 
-pub count_order : (rows : List Row) → First (count_grounds rows) (count rows).verdict
+pub count_order : (rows : List Row) → First (count_grounds rows) (count_verdict (count rows))
 unfolding count countable
 count_order rows = by_test said (countable rows) counts refuses
   where
-    said : Counted → Type 1
-    said t = First (count_grounds rows) t.verdict
+    said : Result ℕ Refusal → Type 1
+    said t = First (count_grounds rows) (count_verdict t)
 
     fine : countable rows ≡ true → ¬ ((length rows ≢ 128) ⊎ NumberAbove rows)
     fine h (inl other) = other (eqb-true (length rows) 128 (both _ _ h).0)
     fine h (inr bad) = all_below 0 rows (both (eqb (length rows) 128) _ h).1 bad
 
-    counts : countable rows ≡ true → First (count_grounds rows) Accepted
+    counts : countable rows ≡ true → First (count_grounds rows) (Ok tt)
     counts h = a_later (fine h) no_ground
 
     broken : (eqb (length rows) 128 ≡ false) ⊎ (all_from (λ i r. row_numbers r) 0 rows ≡ false) → (length rows ≢ 128) ⊎ NumberAbove rows
     broken (inl e) = inl (eqb-false (length rows) 128 e)
     broken (inr e) = inr (one_above 0 rows e)
 
-    refuses : countable rows ≡ false → First (count_grounds rows) (Refused NotWellFormed)
+    refuses : countable rows ≡ false → First (count_grounds rows) (Err NotWellFormed)
     refuses h = this_one (broken (not_both_lem (eqb (length rows) 128) _ h))
 
 -- ---- File ----

@@ -16,8 +16,8 @@ use Rattle.model.proofs.RefusedCalls.{by_test, test, clash, above, not_above, st
 use Rattle.model.specs.declared.Worker.{Worker}
 use Rattle.model.specs.declared.Catalogue.{Catalogue}
 use Rattle.model.specs.declared.Turned.{Turned}
-use Rattle.model.specs.declared.Verdict.{Verdict}
-use Rattle.model.specs.declared.Verdict.TheVariants.{Accepted, Refused}
+use Rattle.model.specs.Verdict.{Verdict}
+use Rattle.std.specs.Prelude.{Ok, Err}
 use Rattle.model.specs.declared.Refusal.{Refusal}
 use Rattle.model.specs.declared.Refusal.TheVariants.{WorkerIdle, NotWellFormed, NinthHelp, BudgetTooLarge}
 
@@ -25,25 +25,25 @@ turned_verdict : Turned → Verdict
 turned_verdict t = t.verdict
 
 module _ (w : ℕ) (c : Catalogue) where
-  rests_refused : IsIdle (worker_at c.workers w) → (step_worker c w).verdict ≡ Refused WorkerIdle
+  rests_refused : IsIdle (worker_at c.workers w) → (step_worker c w).verdict ≡ Err WorkerIdle
   unfolding step_worker
   rests_refused rests = rw rests
 
-  only_ninth : {v : Verdict} → First (busy_grounds c w) v → IsBusy (worker_at c.workers w) → accepted v ≡ false → v ≡ Refused NinthHelp
+  only_ninth : {v : Verdict} → First (busy_grounds c w) v → IsBusy (worker_at c.workers w) → accepted v ≡ false → v ≡ Err NinthHelp
   only_ninth (this_one rests) busy refuses = absurd (clash rests busy)
   only_ninth (a_later _ (this_one _)) busy refuses = refl
   only_ninth (a_later _ (a_later _ no_ground)) busy refuses = absurd (clash refl refuses)
 
   rests_meets_none : {n : ℕ} {d : Catalogue} → IsIdle (worker_at c.workers w) → Steps (unchecked w) n c d
-      → (step_worker d w).verdict ≡ Refused NinthHelp → ⊥
+      → (step_worker d w).verdict ≡ Err NinthHelp → ⊥
   rests_meets_none rests no_step five = let three = rests_refused rests in let z : ◌≡◌ {A = ℕ} 0 1 = cc in omega arith
   rests_meets_none rests (one_more goes rest) five = let three = rests_refused rests in let z : ◌≡◌ {A = ℕ} 0 1 = cc in omega arith
 
-  module _ (left : ℕ) (goes : (step_worker c w).verdict ≡ Accepted) where
+  module _ (left : ℕ) (goes : (step_worker c w).verdict ≡ Ok tt) where
     forth : MeetsNinth w left (step_worker c w).state → MeetsNinth w (suc left) c
     forth (n, d, steps, l, five) = (suc n, d, one_more goes steps, omega arith, five)
 
-    back_of_five : {n : ℕ} {d : Catalogue} → Steps (unchecked w) n c d → n < suc left → (step_worker d w).verdict ≡ Refused NinthHelp
+    back_of_five : {n : ℕ} {d : Catalogue} → Steps (unchecked w) n c d → n < suc left → (step_worker d w).verdict ≡ Err NinthHelp
         → MeetsNinth w left (step_worker c w).state
     back_of_five no_step l five = let z : ◌≡◌ {A = ℕ} 0 1 = cc in absurd (omega arith)
     back_of_five (one_more {n = n} {d = d} _ steps) l five = (n, d, steps, omega arith, five)
@@ -53,9 +53,9 @@ module _ (w : ℕ) (c : Catalogue) where
     one_further (this_one m) = this_one (forth m)
     one_further (a_later none no_ground) = a_later (λ (m : MeetsNinth w (suc left) c). none (back_of_five m.2 m.3 m.4)) no_ground
 
-accepted_true : (v : Verdict) → accepted v ≡ true → v ≡ Accepted
-accepted_true Accepted e = refl
-accepted_true (Refused r) e = cc
+accepted_true : (v : Verdict) → accepted v ≡ true → v ≡ Ok tt
+accepted_true (Ok tt) e = refl
+accepted_true (Err r) e = cc
 
 turn_from_order : (w left n : ℕ) (c : Catalogue) → First (NinthHelp given_when MeetsNinth w left c ∷ []) (turn_from w left n c).verdict
 unfolding turn_from
@@ -94,7 +94,7 @@ module _ (c : Catalogue) (w budget : ℕ) (lent : Worker) where
     pub lent_in_place : w ≤ 7 → t.state ≡ start
 
   abbrev IfUntaken : Turned → Type 0
-  IfUntaken t = (r : Refusal) → t.verdict ≡ Refused r → r ≢ NinthHelp → Untaken t
+  IfUntaken t = (r : Refusal) → t.verdict ≡ Err r → r ≢ NinthHelp → Untaken t
 
   was_taken : {n : ℕ} {t : Turned} → Stopped (unchecked w) w budget n t → IfUntaken t
   was_taken (spent _ goes) r e other = let z : ◌≡◌ {A = ℕ} 0 1 = cc in absurd (omega arith)

@@ -14,21 +14,21 @@ use Rattle.model.specs.declared.Worker.{Worker}
 use Rattle.model.specs.declared.Catalogue.{Catalogue}
 use Rattle.model.specs.declared.Stepped.{Stepped}
 use Rattle.model.specs.declared.Turned.{Turned}
-use Rattle.model.specs.declared.Verdict.{Verdict}
-use Rattle.model.specs.declared.Verdict.TheVariants.{Accepted, Refused}
+use Rattle.model.specs.Verdict.{Verdict}
+use Rattle.std.specs.Prelude.{Ok, Err}
 use Rattle.model.specs.declared.Refusal.{Refusal}
 use Rattle.model.specs.declared.Refusal.TheVariants.{NoSuchWorker, WorkerIdle, NotWellFormed, NinthHelp, BudgetTooLarge}
 
 -- n accepted steps, each taken by `next`, lead from one state to another
 pub data Steps (next : Catalogue → Stepped) : ℕ → Catalogue → Catalogue → Type 0 where
   no_step : {c : Catalogue} → Steps next 0 c c
-  one_more : {n : ℕ} {c d : Catalogue} → (next c).verdict ≡ Accepted → Steps next n (next c).state d → Steps next (suc n) c d
+  one_more : {n : ℕ} {c d : Catalogue} → (next c).verdict ≡ Ok tt → Steps next n (next c).state d → Steps next (suc n) c d
 
 -- why a turn that took so many steps of its budget stopped
 pub data Stopped (next : Catalogue → Stepped) (w budget taken : ℕ) (t : Turned) : Type 0 where
-  spent : taken ≡ budget → t.verdict ≡ Accepted → Stopped next w budget taken t
-  finished : idle (worker_at t.state.workers w).line ≡ true → t.verdict ≡ Accepted → Stopped next w budget taken t
-  ninth : (next t.state).verdict ≡ Refused NinthHelp → t.verdict ≡ Refused NinthHelp → Stopped next w budget taken t
+  spent : taken ≡ budget → t.verdict ≡ Ok tt → Stopped next w budget taken t
+  finished : idle (worker_at t.state.workers w).line ≡ true → t.verdict ≡ Ok tt → Stopped next w budget taken t
+  ninth : (next t.state).verdict ≡ Err NinthHelp → t.verdict ≡ Err NinthHelp → Stopped next w budget taken t
 
 -- a turn of worker w from state c, with n steps counted before it
 pub record Counts (next : Catalogue → Stepped) (w budget n : ℕ) (c : Catalogue) (t : Turned) : Type 0 where
@@ -45,7 +45,7 @@ unchecked w c = step_worker c w
 
 -- a busy worker's step is accepted, or refused with 5
 abbrev OnlyNinth : Stepped → Type 0
-OnlyNinth s = accepted s.verdict ≡ false → s.verdict ≡ Refused NinthHelp
+OnlyNinth s = accepted s.verdict ≡ false → s.verdict ≡ Err NinthHelp
 
 applied_only_ninth : (c : Catalogue) (w : ℕ) (k : Worker) → OnlyNinth (applied c w k (effect_of c.rows w k))
 unfolding applied
@@ -56,9 +56,9 @@ busy_only_ninth : (c : Catalogue) (w : ℕ) → idle (worker_at c.workers w).lin
 unfolding step_worker
 busy_only_ninth c w busy = rw busy (applied_only_ninth c w (worker_at c.workers w))
 
-accepted_true : (v : Verdict) → accepted v ≡ true → v ≡ Accepted
-accepted_true Accepted e = refl
-accepted_true (Refused r) e = cc
+accepted_true : (v : Verdict) → accepted v ≡ true → v ≡ Ok tt
+accepted_true (Ok tt) e = refl
+accepted_true (Err r) e = cc
 
 pub turn_from_counts : (w left n : ℕ) (c : Catalogue) → Counts (unchecked w) w left n c (turn_from w left n c)
 unfolding turn_from
@@ -78,7 +78,7 @@ turn_from_counts w (suc left) n c =
     longer (finished i v) = finished i v
     longer (ninth s v) = ninth s v
 
-    after : {t : Turned} → (step_worker c w).verdict ≡ Accepted → Counts (unchecked w) w left (n + 1) (step_worker c w).state t
+    after : {t : Turned} → (step_worker c w).verdict ≡ Ok tt → Counts (unchecked w) w left (n + 1) (step_worker c w).state t
         → Counts (unchecked w) w (suc left) n c t
     after goes r = record {
       taken = suc r.taken;
@@ -91,7 +91,7 @@ turn_from_counts w (suc left) n c =
 
 -- the turn took place: it was accepted, or ended with refusal 5
 abbrev pub Ran : Turned → Type 0
-Ran t = (t.verdict ≡ Accepted) ⊎ (t.verdict ≡ Refused NinthHelp)
+Ran t = (t.verdict ≡ Ok tt) ⊎ (t.verdict ≡ Err NinthHelp)
 
 -- a turn that took place passed its checks, in the state with the lent record in its place, and its count is what it says
 pub record Took (w budget : ℕ) (start : Catalogue) (t : Turned) : Type 0 where

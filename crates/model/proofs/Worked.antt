@@ -10,7 +10,7 @@ use Rattle.std.specs.Prelude.{ℕ, zero, suc, ◌+◌, ◌*◌, true, false, ◌
 use Rattle.model.specs.State.{row_at, worker_at, idle, empty_catalogue}
 use Rattle.model.specs.Order.{head}
 use Rattle.model.specs.Numbers.{refusal_number}
-use Rattle.model.specs.Count.{walk, is_save, saves_among, saves, countable, count, taken_from, taken}
+use Rattle.model.specs.Count.{saves_told, walk, is_save, saves_among, saves, countable, count, taken_from, taken}
 use Rattle.model.proofs.Computed.{computed, computed_turn}
 use Rattle.model.specs.WellFormed.{all_from}
 use Rattle.model.specs.declared.Row.{Row}
@@ -19,8 +19,8 @@ use Rattle.model.specs.declared.Stepped.{Stepped}
 use Rattle.model.specs.declared.Turned.{Turned}
 use Rattle.model.specs.declared.Call.TheVariants.{Submit, Step}
 use Rattle.model.specs.declared.Answer.{Answer}
-use Rattle.model.specs.declared.Verdict.{Verdict}
-use Rattle.model.specs.declared.Verdict.TheVariants.{Accepted, Refused}
+use Rattle.model.specs.Verdict.{Verdict}
+use Rattle.std.specs.Prelude.{Ok, Err}
 use Rattle.model.specs.declared.Line.{Line}
 use Rattle.model.specs.declared.Line.TheVariants.{Idle, Search, Insert, Flag, Help}
 
@@ -98,15 +98,15 @@ after_step w n (Help l f) es = es
 
 step_seen : Progress → ℕ → Stepped → Verdict → Progress
 unfolding after_step refusal_number
-step_seen p w s Accepted =
+step_seen p w s (Ok tt) =
     let n = get_or p.steps w 0 + 1 in
     progress s.state (set p.steps w n) (after_step w n (worker_at s.state.workers w).line p.events)
-step_seen p w s (Refused r) = progress s.state p.steps (refused w (refusal_number r) ∷ p.events)
+step_seen p w s (Err r) = progress s.state p.steps (refused w (refusal_number r) ∷ p.events)
 
 submit_seen : Progress → ℕ → Stepped → Verdict → Progress
 unfolding refusal_number
-submit_seen p w s Accepted = progress s.state (set p.steps w 0) p.events
-submit_seen p w s (Refused r) = progress s.state p.steps (refused w (refusal_number r) ∷ p.events)
+submit_seen p w s (Ok tt) = progress s.state (set p.steps w 0) p.events
+submit_seen p w s (Err r) = progress s.state p.steps (refused w (refusal_number r) ∷ p.events)
 
 stepped_once : Progress → ℕ → Progress
 unfolding computed step_seen
@@ -130,10 +130,10 @@ step_until_idle (suc n) p w =
 
 turn_seen : Progress → ℕ → Turned → Verdict → Progress
 unfolding after_step refusal_number
-turn_seen p w t Accepted =
+turn_seen p w t (Ok tt) =
     let n = get_or p.steps w 0 + t.steps in
     progress t.state (set p.steps w n) (after_step w n t.lent.line p.events)
-turn_seen p w t (Refused r) = progress t.state p.steps (refused w (refusal_number r) ∷ p.events)
+turn_seen p w t (Err r) = progress t.state p.steps (refused w (refusal_number r) ∷ p.events)
 
 turned_once : ℕ → Progress → ℕ → Progress
 unfolding computed_turn turn_seen
@@ -171,7 +171,7 @@ pub data Seen : Type 0 where
 seen_at : List Event → List Row → Seen
 unfolding walk taken taken_from count countable saves saves_among is_save all_from
 seen_at events rows =
-    seen (reverse events) (taken rows) (count rows).saves (map (λ (i : ℕ). at i (row_at rows i).key) (walk 128 rows head))
+    seen (reverse events) (taken rows) (saves_told (count rows)) (map (λ (i : ℕ). at i (row_at rows i).key) (walk 128 rows head))
 
 seen_of : Progress → Seen
 unfolding seen_at

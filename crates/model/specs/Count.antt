@@ -1,14 +1,14 @@
 -- The count of saves: a walk over row records from the head by right, until the tail or 128 moves, that says how many times it came
 -- to a row above 1 whose standing is linked.
-use Rattle.std.specs.Prelude.{if◌then◌else◌, ℕ, zero, suc, ◌+◌, Bool, ◌&&◌, List, [], ◌∷◌, length, ltb, eqb}
+use Rattle.std.specs.Prelude.{if◌then◌else◌, Result, Ok, Err, ℕ, zero, suc, ◌+◌, Bool, ◌&&◌, List, [], ◌∷◌, length, ltb, eqb}
 use Rattle.model.specs.State.{row_at}
 use Rattle.model.specs.Order.{head, tail}
 use Rattle.model.specs.Insert.{is_free}
 use Rattle.model.specs.Cas.{succ_at}
 use Rattle.model.specs.WellFormed.{all_from, row_numbers, is_linked}
 use Rattle.model.specs.declared.Row.{Row}
-use Rattle.model.specs.declared.Counted.{Counted}
-use Rattle.model.specs.declared.Verdict.TheVariants.{Accepted, Refused}
+use Rattle.model.specs.Verdict.{Verdict}
+use Rattle.model.specs.declared.Refusal.{Refusal}
 use Rattle.model.specs.declared.Refusal.TheVariants.{NotWellFormed}
 
 -- The rows that the walk comes to, each time it does: at most `moves` moves from row `at`, the tail left out.
@@ -34,12 +34,22 @@ saves rows = saves_among rows (walk 128 rows head)
 unfoldable pub countable : List Row → Bool
 countable rows = eqb (length rows) 128 && all_from (λ i r. row_numbers r) 0 rows
 
--- Count, refusal 4, with 0 saves.
-unfoldable pub count : List Row → Counted
+-- Count, refusal 4.
+unfoldable pub count : List Row → Result ℕ Refusal
 count rows =
     if countable rows
-    then record { verdict = Accepted; saves = saves rows }
-    else record { verdict = Refused NotWellFormed; saves = 0 }
+    then Ok (saves rows)
+    else Err NotWellFormed
+
+-- what a count answers, the number left out
+abbrev pub count_verdict : Result ℕ Refusal → Verdict
+count_verdict (Ok n) = Ok tt
+count_verdict (Err r) = Err r
+
+-- the number that is told of a count: with a refusal 0
+abbrev pub saves_told : Result ℕ Refusal → ℕ
+saves_told (Ok n) = n
+saves_told (Err r) = 0
 
 -- the rows not free among those from i on, of which n are left
 unfoldable pub taken_from : List Row → ℕ → ℕ → ℕ

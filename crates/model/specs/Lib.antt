@@ -1,4 +1,5 @@
 -- The definitions: records and numbers, the published lines, the calls, the schedule file, packed rows
+pub mod Verdict
 pub mod State
 pub mod Numbers
 pub mod Order

@@ -15,8 +15,8 @@ use Rattle.model.specs.declared.Catalogue.{Catalogue}
 use Rattle.model.specs.declared.Stepped.{Stepped}
 use Rattle.model.specs.declared.Called.{Called}
 use Rattle.model.specs.declared.Call.{Call}
-use Rattle.model.specs.declared.Verdict.{Verdict}
-use Rattle.model.specs.declared.Verdict.TheVariants.{Accepted, Refused}
+use Rattle.model.specs.Verdict.{Verdict}
+use Rattle.std.specs.Prelude.{Ok, Err}
 use Rattle.model.specs.declared.Refusal.{Refusal}
 use Rattle.model.specs.declared.Refusal.TheVariants.{NoSuchWorker, NotWellFormed}
 
@@ -103,7 +103,7 @@ abbrev pub packed_stepped : Stepped → OnWords
 packed_stepped s = record { called = record { verdict = s.verdict; workers = s.state.workers }; words = packed s.state.rows }
 
 abbrev pub refused_on : Refusal → List ℕ → List Worker → OnWords
-refused_on r words workers = record { called = record { verdict = Refused r; workers = workers }; words = words }
+refused_on r words workers = record { called = record { verdict = Err r; workers = workers }; words = words }
 
 -- Refusal 1; then 4 if the words pack no rows; else what the call gives on the state that words and workers stand for.
 unfoldable pub packed_call : List ℕ → List Worker → Call → OnWords
@@ -117,7 +117,7 @@ packed_call words workers x =
 -- Its rows go into 512 words; another number of words is refused with 4, and nothing is written.
 
 unfoldable pub pack_verdict : List ℕ → Verdict
-pack_verdict words = if eqb (length words) 512 then Accepted else Refused NotWellFormed
+pack_verdict words = if eqb (length words) 512 then (Ok tt) else Err NotWellFormed
 
 unfoldable pub pack_into : Catalogue → List ℕ → List ℕ
 pack_into c words = if eqb (length words) 512 then packed c.rows else words

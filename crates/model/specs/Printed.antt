@@ -3,15 +3,15 @@
 use Rattle.std.specs.Prelude.{if◌then◌else◌, ℕ, zero, suc, ◌+◌, ◌/◌, ◌%◌, List, [], ◌∷◌, ◌++◌, ltb}
 use Rattle.model.specs.State.{worker_at, empty_catalogue}
 use Rattle.model.specs.Numbers.{answer_number, answer_element, refusal_number}
-use Rattle.model.specs.Count.{count, taken}
+use Rattle.model.specs.Count.{saves_told, count, taken}
 use Rattle.model.specs.Run.{call}
 use Rattle.model.specs.Schedule.{file_verdict, calls_of}
 use Rattle.model.specs.declared.Catalogue.{Catalogue}
 use Rattle.model.specs.declared.Stepped.{Stepped}
 use Rattle.model.specs.declared.Call.{Call}
 use Rattle.model.specs.declared.Call.TheVariants.{Submit, Step}
-use Rattle.model.specs.declared.Verdict.{Verdict}
-use Rattle.model.specs.declared.Verdict.TheVariants.{Accepted, Refused}
+use Rattle.model.specs.Verdict.{Verdict}
+use Rattle.std.specs.Prelude.{Ok, Err}
 use Rattle.model.specs.declared.Refusal.{Refusal}
 use Rattle.model.specs.declared.Line.{Line}
 use Rattle.model.specs.declared.Line.TheVariants.{Idle, Search, Insert, Flag, Help}
@@ -67,8 +67,8 @@ accepted_text n (Submit w code key element) c = []
 accepted_text n (Step w) c = finish_line n w (worker_at c.workers w).line
 
 unfoldable pub verdict_text : ℕ → Call → Verdict → Catalogue → List ℕ
-verdict_text n x Accepted c = accepted_text n x c
-verdict_text n x (Refused r) c = event_line n (call_worker x) (refusal_text r) 0
+verdict_text n x (Ok tt) c = accepted_text n x c
+verdict_text n x (Err r) c = event_line n (call_worker x) (refusal_text r) 0
 
 -- what event n prints, after which the state is s.state
 unfoldable pub event_text : ℕ → Call → Stepped → List ℕ
@@ -77,7 +77,7 @@ event_text n x s = verdict_text n x s.verdict s.state
 -- "count N rows M"
 unfoldable pub last_line : Catalogue → List ℕ
 last_line c =
-    99 ∷ 111 ∷ 117 ∷ 110 ∷ 116 ∷ space ∷ decimal (count c.rows).saves
+    99 ∷ 111 ∷ 117 ∷ 110 ∷ 116 ∷ space ∷ decimal (saves_told (count c.rows))
     ++ space ∷ 114 ∷ 111 ∷ 119 ∷ 115 ∷ space ∷ decimal (taken c.rows) ++ line_feed ∷ []
 
 -- the lines of the events from number n on, and the last line
@@ -90,8 +90,8 @@ unfoldable pub refused_file : Refusal → List ℕ
 refused_file r = 102 ∷ 105 ∷ 108 ∷ 101 ∷ space ∷ decimal (refusal_number r) ++ line_feed ∷ []
 
 unfoldable pub file_text : Verdict → List ℕ → List ℕ
-file_text Accepted file = heading ++ run_text 1 empty_catalogue (calls_of file)
-file_text (Refused r) file = refused_file r
+file_text (Ok tt) file = heading ++ run_text 1 empty_catalogue (calls_of file)
+file_text (Err r) file = refused_file r
 
 unfoldable pub printed : List ℕ → List ℕ
 printed file = file_text (file_verdict file) file

@@ -3,8 +3,8 @@
 use Rattle.std.specs.Prelude.{if◌then◌else◌, ℕ, zero, suc, ◌+◌, ◌*◌, Bool, true, false, not, ◌&&◌, ◌||◌, List, [], ◌∷◌, length, drop, get_or, ltb, leb, eqb}
 use Rattle.model.specs.declared.Call.{Call}
 use Rattle.model.specs.declared.Call.TheVariants.{Submit, Step}
-use Rattle.model.specs.declared.Verdict.{Verdict}
-use Rattle.model.specs.declared.Verdict.TheVariants.{Accepted, Refused}
+use Rattle.model.specs.Verdict.{Verdict}
+use Rattle.std.specs.Prelude.{Ok, Err}
 use Rattle.model.specs.declared.Refusal.TheVariants.{FileVersion, FileLength, FileRecord, FileTooLong}
 
 abbrev pub byte_at : List ℕ → ℕ → ℕ
@@ -37,12 +37,12 @@ records_fit (suc tries) (n ∷ rest) = record_fits n rest && records_fit tries (
 -- File, refusals 8 (short), 7, 10, 8 (length), 9.
 unfoldable pub file_verdict : List ℕ → Verdict
 file_verdict file =
-    if ltb (length file) 3 then Refused FileLength
-    else if not (eqb (byte_at file 0) 1) then Refused FileVersion
-    else if ltb 60000 (stated_length file) then Refused FileTooLong
-    else if not (eqb (stated_length file) (length (body file))) then Refused FileLength
-    else if not (records_fit (length (body file)) (body file)) then Refused FileRecord
-    else Accepted
+    if ltb (length file) 3 then Err FileLength
+    else if not (eqb (byte_at file 0) 1) then Err FileVersion
+    else if ltb 60000 (stated_length file) then Err FileTooLong
+    else if not (eqb (stated_length file) (length (body file))) then Err FileLength
+    else if not (records_fit (length (body file)) (body file)) then Err FileRecord
+    else (Ok tt)
 
 -- the call of a record of n bytes
 unfoldable pub record_call : ℕ → List ℕ → Call

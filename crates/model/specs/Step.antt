@@ -18,7 +18,7 @@ use Rattle.model.specs.declared.Write.TheVariants.{NoRow, OneRow, TwoRows}
 use Rattle.model.specs.declared.Stack.{Stack}
 use Rattle.model.specs.declared.Stack.TheVariants.{Keep, Push, Pop}
 use Rattle.model.specs.declared.Stepped.{Stepped}
-use Rattle.model.specs.declared.Verdict.TheVariants.{Accepted, Refused}
+use Rattle.std.specs.Prelude.{Ok, Err}
 use Rattle.model.specs.declared.Refusal.{Refusal}
 use Rattle.model.specs.declared.Refusal.TheVariants.{NoSuchWorker, WorkerBusy, WorkerIdle, NotWellFormed, NinthHelp, NoSuchRequest}
 use Rattle.model.specs.declared.SearchCaller.TheVariants.{Search1, Insert1, Delete1}
@@ -26,10 +26,10 @@ use Rattle.model.specs.declared.Line.{Line}
 use Rattle.model.specs.declared.Line.TheVariants.{Idle, Search, Insert, Flag, Help}
 
 abbrev pub refuse : Refusal → Catalogue → Stepped
-refuse r c = record { verdict = Refused r; state = c }
+refuse r c = record { verdict = Err r; state = c }
 
 abbrev pub accept : Catalogue → Stepped
-accept c = record { verdict = Accepted; state = c }
+accept c = record { verdict = (Ok tt); state = c }
 
 -- What the line of worker `me` does to the rows and to the worker. An idle worker's step is refused, so its case is never used.
 unfoldable pub line_effect : List Row → ℕ → ℕ → Pending → Line → Effect

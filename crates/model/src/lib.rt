@@ -4,12 +4,13 @@
 #![tactic(auto)]
 
 ghost use Rattle.std.specs.Prelude.{◌≡◌};
-ghost use Rattle.model.specs.State.{empty_catalogue, free_row, end_row, idle_worker};
+ghost use Rattle.model.specs.State.{empty_catalogue, free_row, end_row, fresh_worker, idle_worker};
+ghost use Rattle.model.specs.Numbers.{answer_number, answer_element, refusal_number};
 
 // ---- Rows ----
 
 // A row's successor: C&S compares and writes its three parts together.
-#[derive(Clone, Copy)]
+#[derive(Clone, Copy, Debug, PartialEq, Eq)]
 pub struct Succ {
     pub right: u8,
     pub mark: bool,
@@ -17,14 +18,14 @@ pub struct Succ {
 }
 
 // Who may touch a row: nobody yet, the worker whose unfinished insert took it, or everybody.
-#[derive(Clone, Copy)]
+#[derive(Clone, Copy, Debug, PartialEq, Eq)]
 pub enum Standing {
     Free,
     Held(u8),
     Linked,
 }
 
-#[derive(Clone, Copy)]
+#[derive(Clone, Copy, Debug, PartialEq, Eq)]
 pub struct Row {
     pub key: u32,
     pub element: u32,
@@ -36,7 +37,7 @@ pub struct Row {
 // ---- Answers and refusals ----
 
 // What a finished request was answered. `NoAnswer` is the answer 0 of a worker that has never finished one.
-#[derive(Clone, Copy)]
+#[derive(Clone, Copy, Debug, PartialEq, Eq)]
 pub enum Answer {
     NoAnswer,
     Found(u32),
@@ -47,27 +48,61 @@ pub enum Answer {
     Full,
 }
 
-// Document 01's table of refusals, in its order: numbers 1 to 11, and no other.
-#[derive(Clone, Copy)]
-pub enum Refusal {
-    NoSuchWorker,
-    WorkerBusy,
-    WorkerIdle,
-    NotWellFormed,
-    NinthHelp,
-    NoSuchRequest,
-    FileVersion,
-    FileLength,
-    FileRecord,
-    FileTooLong,
-    BudgetTooLarge,
+impl Answer {
+    #[tactic(auto, unfolding(crate::specs::Numbers::answer_number))]
+    pub fn number(self) -> u32
+        ensures { result ≡ answer_number self }
+    {
+        match self {
+            Answer::NoAnswer => 0,
+            Answer::Found(_) => 1,
+            Answer::Absent => 2,
+            Answer::Added => 3,
+            Answer::Duplicate => 4,
+            Answer::Removed(_) => 5,
+            Answer::Full => 6,
+        }
+    }
+
+    // 0 where there is none.
+    #[tactic(auto, unfolding(crate::specs::Numbers::answer_element))]
+    pub fn element(self) -> u32
+        ensures { result ≡ answer_element self }
+    {
+        match self {
+            Answer::Found(element) | Answer::Removed(element) => element,
+            _ => 0,
+        }
+    }
 }
 
-#[derive(Clone, Copy)]
-pub enum Verdict {
-    Accepted,
-    Refused(Refusal),
+// Document 01's table of refusals, with its numbers, and no other.
+#[derive(Clone, Copy, Debug, PartialEq, Eq)]
+pub enum Refusal {
+    NoSuchWorker = 1,
+    WorkerBusy = 2,
+    WorkerIdle = 3,
+    NotWellFormed = 4,
+    NinthHelp = 5,
+    NoSuchRequest = 6,
+    FileVersion = 7,
+    FileLength = 8,
+    FileRecord = 9,
+    FileTooLong = 10,
+    BudgetTooLarge = 11,
 }
+
+impl From<Refusal> for u32 {
+    ghost from_gives = { λ refusal number. number ≡ refusal_number refusal };
+
+    #[tactic(auto, unfolding(crate::specs::Numbers::refusal_number))]
+    fn from(refusal: Refusal) -> u32 {
+        refusal as u32
+    }
+}
+
+// What a call answers.
+pub type Verdict = Result<(), Refusal>;
 
 // ---- Lines: where a busy worker stands, with what that line needs ----
 //
@@ -75,7 +110,7 @@ pub enum Verdict {
 // accesses has one case for each.
 
 // Who called SearchFrom, with what the caller keeps meanwhile.
-#[derive(Clone, Copy)]
+#[derive(Clone, Copy, Debug, PartialEq, Eq)]
 pub enum SearchCaller {
     Search1,
     Insert1,
@@ -85,7 +120,7 @@ pub enum SearchCaller {
 }
 
 // SearchFrom, and the HelpMarked of its line 5.
-#[derive(Clone, Copy)]
+#[derive(Clone, Copy, Debug, PartialEq, Eq)]
 pub enum SearchLine {
     SearchFrom1,
     SearchFrom3NextMark { next: u8 },
@@ -99,7 +134,7 @@ pub enum SearchLine {
 }
 
 // The element is an insert's. A submit of any other request stores 0 there, and nothing reads it.
-#[derive(Clone, Copy)]
+#[derive(Clone, Copy, Debug, PartialEq, Eq)]
 pub struct SearchFrame {
     pub key: u32,
     pub element: u32,
@@ -108,7 +143,7 @@ pub struct SearchFrame {
 }
 
 // Insert's own accesses. Lines 10 and 11 are one step.
-#[derive(Clone, Copy)]
+#[derive(Clone, Copy, Debug, PartialEq, Eq)]
 pub enum InsertLine {
     Insert4 { next: u8 },
     Insert6 { next: u8, new: u8 },
@@ -117,7 +152,7 @@ pub enum InsertLine {
     Insert18 { new: u8 },
 }
 
-#[derive(Clone, Copy)]
+#[derive(Clone, Copy, Debug, PartialEq, Eq)]
 pub struct InsertFrame {
     pub key: u32,
     pub element: u32,
@@ -125,7 +160,7 @@ pub struct InsertFrame {
 }
 
 // TryFlag, which Delete calls.
-#[derive(Clone, Copy)]
+#[derive(Clone, Copy, Debug, PartialEq, Eq)]
 pub enum FlagLine {
     TryFlag2,
     TryFlag4,
@@ -133,7 +168,7 @@ pub enum FlagLine {
     TryFlag10,
 }
 
-#[derive(Clone, Copy)]
+#[derive(Clone, Copy, Debug, PartialEq, Eq)]
 pub struct FlagFrame {
     pub key: u32,
     pub prev: u8,
@@ -141,7 +176,7 @@ pub struct FlagFrame {
 }
 
 // Who called the outermost HelpFlagged, with what the caller keeps meanwhile.
-#[derive(Clone, Copy)]
+#[derive(Clone, Copy, Debug, PartialEq, Eq)]
 pub enum HelpCaller {
     Insert8 { prev: u8, new: u8 },
     Insert16 { prev: u8, new: u8 },
@@ -149,7 +184,7 @@ pub enum HelpCaller {
 }
 
 // HelpFlagged, and the TryMark and HelpMarked that it calls.
-#[derive(Clone, Copy)]
+#[derive(Clone, Copy, Debug, PartialEq, Eq)]
 pub enum HelpLine {
     HelpFlagged1,
     HelpFlagged2,
@@ -160,7 +195,7 @@ pub enum HelpLine {
     HelpMarked2 { right: u8 },
 }
 
-#[derive(Clone, Copy)]
+#[derive(Clone, Copy, Debug, PartialEq, Eq)]
 pub struct HelpFrame {
     pub key: u32,
     pub element: u32,
@@ -169,7 +204,7 @@ pub struct HelpFrame {
     pub caller: HelpCaller,
 }
 
-#[derive(Clone, Copy)]
+#[derive(Clone, Copy, Debug, PartialEq, Eq)]
 pub enum Line {
     Idle(Answer),
     Search(SearchLine, SearchFrame),
@@ -181,21 +216,21 @@ pub enum Line {
 // ---- Workers and the catalogue ----
 
 // A HelpFlagged(prev, del) that waits in TryMark for another to end.
-#[derive(Clone, Copy)]
+#[derive(Clone, Copy, Debug, Default, PartialEq, Eq)]
 pub struct Pending {
     pub prev: u8,
     pub del: u8,
 }
 
 // The first `count` of `helps` are the pending helps, the last of them the first to run again.
-#[derive(Clone, Copy)]
+#[derive(Clone, Copy, Debug, PartialEq, Eq)]
 pub struct Worker {
     pub line: Line,
     pub helps: [Pending; Catalogue::HELPS],
     pub count: u8,
 }
 
-#[derive(Clone, Copy)]
+#[derive(Clone, Copy, Debug, PartialEq, Eq)]
 pub struct Catalogue {
     pub rows: [Row; Catalogue::ROWS],
     pub workers: [Worker; Catalogue::WORKERS],
@@ -204,7 +239,7 @@ pub struct Catalogue {
 // ---- What a line does ----
 
 // The rows that a line writes, the first one first.
-#[derive(Clone, Copy)]
+#[derive(Clone, Copy, Debug, PartialEq, Eq)]
 pub enum Write {
     NoRow,
     OneRow(u8, Row),
@@ -212,14 +247,14 @@ pub enum Write {
 }
 
 // What becomes of the pending helps.
-#[derive(Clone, Copy)]
+#[derive(Clone, Copy, Debug, PartialEq, Eq)]
 pub enum Stack {
     Keep,
     Push(Pending),
     Pop,
 }
 
-#[derive(Clone, Copy)]
+#[derive(Clone, Copy, Debug, PartialEq, Eq)]
 pub struct Effect {
     pub line: Line,
     pub write: Write,
@@ -229,7 +264,7 @@ pub struct Effect {
 // ---- Calls and what they give back ----
 
 // A call of the catalogue, with any numbers.
-#[derive(Clone, Copy)]
+#[derive(Clone, Copy, Debug, PartialEq, Eq)]
 pub enum Call {
     Submit {
         worker: u32,
@@ -243,33 +278,26 @@ pub enum Call {
 }
 
 // After a submit or a step.
-#[derive(Clone, Copy)]
+#[derive(Clone, Copy, Debug, PartialEq, Eq)]
 pub struct Stepped {
     pub verdict: Verdict,
     pub state: Catalogue,
 }
 
 // After a submit or a step on packed rows: the rows are in the words that were lent.
-#[derive(Clone, Copy)]
+#[derive(Clone, Copy, Debug, PartialEq, Eq)]
 pub struct Called {
     pub verdict: Verdict,
     pub workers: [Worker; Catalogue::WORKERS],
 }
 
 // After a turn: the steps taken, and the lent worker record as the loop finds it.
-#[derive(Clone, Copy)]
+#[derive(Clone, Copy, Debug, PartialEq, Eq)]
 pub struct Turned {
     pub verdict: Verdict,
     pub steps: u32,
     pub state: Catalogue,
     pub lent: Worker,
-}
-
-// After a count.
-#[derive(Clone, Copy)]
-pub struct Counted {
-    pub verdict: Verdict,
-    pub saves: u32,
 }
 
 // ---- The empty catalogue ----
@@ -299,7 +327,7 @@ fn end_row(right: u8) -> Row
         element: 0,
         backlink: 0,
         succ: Succ {
-            right: right,
+            right,
             mark: false,
             flag: false,
         },
@@ -307,15 +335,21 @@ fn end_row(right: u8) -> Row
     }
 }
 
-pub fn idle_worker(a: Answer) -> Worker
-    ensures { result ≡ idle_worker a }
+// A worker at a line, all other registers zero.
+pub fn fresh_worker(line: Line) -> Worker
+    ensures { result ≡ fresh_worker line }
 {
-    let none = Pending { prev: 0, del: 0 };
     Worker {
-        line: Line::Idle(a),
-        helps: [none; Catalogue::HELPS],
+        line,
+        helps: [Pending::default(); Catalogue::HELPS],
         count: 0,
     }
+}
+
+pub fn idle_worker(answer: Answer) -> Worker
+    ensures { result ≡ idle_worker answer }
+{
+    fresh_worker(Line::Idle(answer))
 }
 
 impl Catalogue {
@@ -328,14 +362,12 @@ impl Catalogue {
     pub fn empty() -> Self
         ensures { result ≡ empty_catalogue }
     {
-        let free = free_row();
-        let mut rows = [free; 128];
-        let head = end_row(1);
-        let tail = end_row(0);
-        rows[0] = head;
-        rows[1] = tail;
-        let idle = idle_worker(Answer::NoAnswer);
-        let workers = [idle; Self::WORKERS];
-        Catalogue { rows, workers }
+        let mut rows = [free_row(); Self::ROWS];
+        rows[0] = end_row(1);
+        rows[1] = end_row(0);
+        Catalogue {
+            rows,
+            workers: [idle_worker(Answer::NoAnswer); Self::WORKERS],
+        }
     }
 }

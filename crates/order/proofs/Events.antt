@@ -14,7 +14,7 @@ use Rattle.model.specs.declared.Worker.{Worker}
 use Rattle.model.specs.declared.Catalogue.{Catalogue}
 use Rattle.model.specs.declared.Refusal.{Refusal}
 use Rattle.model.specs.declared.Refusal.TheVariants.{WorkerIdle, NinthHelp}
-use Rattle.model.specs.declared.Verdict.TheVariants.{Accepted, Refused}
+use Rattle.std.specs.Prelude.{Ok, Err}
 use Rattle.model.specs.declared.Stepped.{Stepped}
 use Rattle.model.specs.declared.Call.{Call}
 use Rattle.model.specs.declared.Call.TheVariants.{Submit, Step}
@@ -55,10 +55,10 @@ pub other_line : {c c' : Catalogue} {w : ℕ} {k : Worker} → WorkerPut c c' w 
 other_line put v differ = ap (λ (k : Worker). k.line) (put.others v differ)
 
 pub data Event (c : Catalogue) (x : Call) (s : Stepped) : Type 0 where
-  refused : (r : Refusal) → s.verdict ≡ Refused r → s.state ≡ c → Event c x s
-  submitted : (w code key element : ℕ) → w < 8 → x ≡ Submit w code key element → s.verdict ≡ Accepted
+  refused : (r : Refusal) → s.verdict ≡ Err r → s.state ≡ c → Event c x s
+  submitted : (w code key element : ℕ) → w < 8 → x ≡ Submit w code key element → s.verdict ≡ Ok tt
       → Submitted c s.state w code key element → Event c x s
-  stepped : (w : ℕ) → w < 8 → x ≡ Step w → s.verdict ≡ Accepted → StepTaken c s.state w → Event c x s
+  stepped : (w : ℕ) → w < 8 → x ≡ Step w → s.verdict ≡ Ok tt → StepTaken c s.state w → Event c x s
 
 module _ (c : Catalogue) (x : Call) (size : length c.workers ≡ 8) where
   refusal : (r : Refusal) → Event c x (refuse r c)

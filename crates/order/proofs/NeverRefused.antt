@@ -8,14 +8,14 @@ use Rattle.kept.specs.Ways.{refused_because}
 use Rattle.model.specs.State.{empty_catalogue}
 use Rattle.model.specs.Run.{call, run}
 use Rattle.model.specs.declared.Refusal.TheVariants.{NotWellFormed, NinthHelp}
-use Rattle.model.specs.declared.Verdict.TheVariants.{Refused}
+use Rattle.std.specs.Prelude.{Err}
 use Rattle.model.specs.declared.Call.{Call}
 
-pub never_ninth_help : (calls : List Call) (x : Call) → (call (run empty_catalogue calls) x).verdict ≢ Refused NinthHelp
+pub never_ninth_help : (calls : List Call) (x : Call) → (call (run empty_catalogue calls) x).verdict ≢ Err NinthHelp
 never_ninth_help calls x refused =
     let pushes = refused_because (run empty_catalogue calls) x NinthHelp refused in
     clash pushes.ninth (no_ninth (reached calls) pushes.worker pushes.busy)
 
-pub never_not_well_formed : (calls : List Call) (x : Call) → (call (run empty_catalogue calls) x).verdict ≢ Refused NotWellFormed
+pub never_not_well_formed : (calls : List Call) (x : Call) → (call (run empty_catalogue calls) x).verdict ≢ Err NotWellFormed
 never_not_well_formed calls x refused =
     clash (reached_well_formed calls) (refused_because (run empty_catalogue calls) x NotWellFormed refused)

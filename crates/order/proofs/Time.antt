@@ -23,7 +23,7 @@ use Rattle.model.specs.State.{row_at, idle}
 use Rattle.model.specs.Run.{call, run}
 use Rattle.model.specs.declared.Row.{Row}
 use Rattle.model.specs.declared.Catalogue.{Catalogue}
-use Rattle.model.specs.declared.Verdict.TheVariants.{Accepted}
+use Rattle.std.specs.Prelude.{Ok}
 use Rattle.model.specs.declared.Call.{Call}
 use Rattle.model.specs.declared.Call.TheVariants.{Submit, Step}
 
@@ -134,11 +134,11 @@ module _ {top : ℕ} {start : Catalogue} {calls : List Call} (ready : Ready top 
       x : Call
       x = get_or calls i (Step 0)
 
-      accepts : (y : Call) → i < length calls → x ≡ y → (call (state_at start calls i) x).verdict ≡ Accepted → Accepts start calls i y
+      accepts : (y : Call) → i < length calls → x ≡ y → (call (state_at start calls i) x).verdict ≡ Ok tt → Accepts start calls i y
       accepts y h is v = record {
         inside = h;
         made = any_default calls i y (Step 0) h ∙ is;
-        accepted = subst (λ (z : Call). (call (state_at start calls i) z).verdict ≡ Accepted) is v;
+        accepted = subst (λ (z : Call). (call (state_at start calls i) z).verdict ≡ Ok tt) is v;
       }
 
       go : i < length calls → Event (state_at start calls i) x (call (state_at start calls i) x) → Happening start calls i

@@ -15,7 +15,7 @@ use Rattle.model.specs.declared.Call.{Call}
 use Rattle.model.specs.declared.Call.TheVariants.{Submit, Step}
 use Rattle.model.specs.declared.Answer.{Answer}
 use Rattle.model.specs.declared.Answer.TheVariants.{Full, Removed}
-use Rattle.model.specs.declared.Verdict.TheVariants.{Accepted}
+use Rattle.std.specs.Prelude.{Ok}
 use Rattle.model.specs.declared.Standing.TheVariants.{Held, Linked}
 use Rattle.model.specs.declared.Line.{Line}
 use Rattle.model.specs.declared.Line.TheVariants.{Idle, Insert}
@@ -40,7 +40,7 @@ module _ (start : Catalogue) (calls : List Call) where
   pub record Accepts (i : ℕ) (x : Call) : Type 0 where
     pub inside : i < end
     pub made : get_or calls i x ≡ x
-    pub accepted : (call (state_at i) x).verdict ≡ Accepted
+    pub accepted : (call (state_at i) x).verdict ≡ Ok tt
 
   -- ---- Requests ----
 

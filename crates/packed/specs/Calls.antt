@@ -9,7 +9,7 @@ use Rattle.model.specs.declared.Worker.{Worker}
 use Rattle.model.specs.declared.Called.{Called}
 use Rattle.model.specs.declared.Call.{Call}
 use Rattle.model.specs.declared.Call.TheVariants.{Submit, Step}
-use Rattle.model.specs.declared.Verdict.TheVariants.{Refused}
+use Rattle.std.specs.Prelude.{Err}
 use Rattle.model.specs.declared.Refusal.{Refusal}
 use Rattle.model.specs.declared.Refusal.TheVariants.{NoSuchWorker, NotWellFormed}
 use Rattle.packing.specs.WellFormedWords.{packed_well_told}
@@ -18,7 +18,7 @@ use Rattle.packed.specs.declared.steps.Moved.{Moved}
 use Rattle.packed.specs.Steps.{StepsAs}
 
 abbrev pub refused_call : Refusal → List Worker → Called
-refused_call r workers = record { verdict = Refused r; workers = workers }
+refused_call r workers = record { verdict = Err r; workers = workers }
 
 -- what a call gives back, and the words after it
 abbrev pub Gives : OnWords → Called → List ℕ → Type 0

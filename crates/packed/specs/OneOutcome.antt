@@ -9,7 +9,7 @@ use Rattle.model.specs.declared.Catalogue.{Catalogue}
 use Rattle.model.specs.declared.Called.{Called}
 use Rattle.model.specs.declared.Stepped.{Stepped}
 use Rattle.model.specs.declared.Call.TheVariants.{Submit, Step}
-use Rattle.model.specs.declared.Verdict.{Verdict}
+use Rattle.model.specs.Verdict.{Verdict}
 use Rattle.packed.specs.Tables.{Packing}
 use Rattle.packed.specs.Calls.{Gives}
 

@@ -8,7 +8,7 @@ use Rattle.model.specs.Packed.{packed, unpacked, state_of}
 use Rattle.model.specs.declared.Worker.{Worker}
 use Rattle.model.specs.declared.Stepped.{Stepped}
 use Rattle.model.specs.declared.Write.{Write}
-use Rattle.model.specs.declared.Verdict.TheVariants.{Accepted, Refused}
+use Rattle.std.specs.Prelude.{Ok, Err}
 use Rattle.model.specs.declared.Refusal.{Refusal}
 use Rattle.packing.specs.Tables.{PacksRows}
 use Rattle.packing.specs.Stored.{stored, packed_stored}
@@ -22,7 +22,7 @@ pub record StepsAs (words : List ℕ) (workers : List Worker) (me : ℕ) (m : Mo
 
 module _ (words : List ℕ) (packs : PacksRows words) (workers : List Worker) (me : ℕ) where
   pub refused : (k : Worker) → worker_at workers me ≡ k → (r : Refusal) → refuse r (state_of words workers) ≡ step_worker (state_of words workers) me
-      → StepsAs words workers me (record { verdict = Refused r; worker = k }) words
+      → StepsAs words workers me (record { verdict = Err r; worker = k }) words
   refused k its r step = record {
     verdict = ap (λ (s : Stepped). s.verdict) step;
     record_back = rw (← its, set-get_or) (ap (λ (s : Stepped). s.state.workers) step);
@@ -31,7 +31,7 @@ module _ (words : List ℕ) (packs : PacksRows words) (workers : List Worker) (m
 
   pub moved : (write : Write) (after : Worker) (later : List ℕ) → later ≡ stored words write
       → accept (record { rows = written (unpacked words) write; workers = set workers me after }) ≡ step_worker (state_of words workers) me
-      → StepsAs words workers me (record { verdict = Accepted; worker = after }) later
+      → StepsAs words workers me (record { verdict = (Ok tt); worker = after }) later
   moved write after later stores step = record {
     verdict = ap (λ (s : Stepped). s.verdict) step;
     record_back = ap (λ (s : Stepped). s.state.workers) step;

@@ -14,8 +14,8 @@ use Rattle.model.specs.Packed.{succ_word, rest_word, packed, packs_row, packs_ea
 use Rattle.model.specs.declared.Row.{Row}
 use Rattle.model.specs.declared.Worker.{Worker}
 use Rattle.model.specs.declared.Catalogue.{Catalogue}
-use Rattle.model.specs.declared.Verdict.{Verdict}
-use Rattle.model.specs.declared.Verdict.TheVariants.{Accepted, Refused}
+use Rattle.model.specs.Verdict.{Verdict}
+use Rattle.std.specs.Prelude.{Ok, Err}
 use Rattle.model.specs.declared.Refusal.TheVariants.{NotWellFormed}
 use Rattle.kept.specs.Conditions.{contradiction}
 use Rattle.packing.specs.OneRow.{Bytes}
@@ -122,10 +122,10 @@ none_yet rows words size = record { size = size; bytes = none; packing = refl }
 pub record Packing (c : Catalogue) (before : List ℕ) (r : Verdict) (after : List ℕ) : Type 0 where
   pub verdict : r ≡ pack_verdict before
   pub words : after ≡ pack_into c before
-  pub rows : r ≡ Accepted → PackingOf after c.rows
+  pub rows : r ≡ Ok tt → PackingOf after c.rows
 
 pub all_packed : (c : Catalogue) (before words : List ℕ) → length before ≡ 512 → length c.rows ≡ 128 → (i : ℕ) → i ≡ 128 → FirstPacked c.rows i words
-    → Packing c before Accepted words
+    → Packing c before (Ok tt) words
 unfolding pack_verdict pack_into
 all_packed c before words was number i done h =
     let all = take_all i c.rows (omega arith) in
@@ -136,7 +136,7 @@ all_packed c before words was number i done h =
       rows = λ _. record { bytes = rw all at h.bytes; number = number; packing = same };
     }
 
-pub none_packed : (c : Catalogue) (words : List ℕ) → (length words ≡ 512 → ⊥) → Packing c words (Refused NotWellFormed) words
+pub none_packed : (c : Catalogue) (words : List ℕ) → (length words ≡ 512 → ⊥) → Packing c words (Err NotWellFormed) words
 unfolding pack_verdict pack_into
 none_packed c words h = record {
   verdict = rw (ne_eqb (length words) 512 h);

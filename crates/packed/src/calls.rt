@@ -13,7 +13,7 @@ fn refused(refusal: Refusal, workers: [Worker; Catalogue::WORKERS]) -> Called
     ensures { result ≡ refused_call refusal workers }
 {
     Called {
-        verdict: Verdict::Refused(refusal),
+        verdict: Err(refusal),
         workers: workers,
     }
 }

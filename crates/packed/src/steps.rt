@@ -28,7 +28,7 @@ pub fn step_worker(words: &mut [u32], k: Worker, me: u8) -> Moved
     let line = k.line;
     if is_idle(line) {
         return Moved {
-            verdict: Verdict::Refused(Refusal::WorkerIdle),
+            verdict: Err(Refusal::WorkerIdle),
             worker: k,
         };
     }
@@ -42,7 +42,7 @@ pub fn step_worker(words: &mut [u32], k: Worker, me: u8) -> Moved
     let stack = effect.stack;
     if ninth_help(k.count, stack) {
         return Moved {
-            verdict: Verdict::Refused(Refusal::NinthHelp),
+            verdict: Err(Refusal::NinthHelp),
             worker: k,
         };
     }
@@ -50,7 +50,7 @@ pub fn step_worker(words: &mut [u32], k: Worker, me: u8) -> Moved
     let write = effect.write;
     store(words, write);
     Moved {
-        verdict: Verdict::Accepted,
+        verdict: Ok(()),
         worker: moved,
     }
 }

@@ -65,9 +65,9 @@ pub fn pack(state: Catalogue, words: &mut [u32]) -> Verdict
             store_row(words, i, row);
             i += 1;
         }
-        return Verdict::Accepted;
+        return Ok(());
     }
-    Verdict::Refused(Refusal::NotWellFormed)
+    Err(Refusal::NotWellFormed)
 }
 
 // Words that pack no rows are refused with 4, and the catalogue is the empty one.
@@ -76,12 +76,12 @@ pub fn unpack(words: &[u32], workers: [Worker; Catalogue::WORKERS]) -> Stepped
 {
     if packs_rows(words) {
         return Stepped {
-            verdict: Verdict::Accepted,
+            verdict: Ok(()),
             state: state_of(words, workers),
         };
     }
     Stepped {
-        verdict: Verdict::Refused(Refusal::NotWellFormed),
+        verdict: Err(Refusal::NotWellFormed),
         state: Catalogue::empty(),
     }
 }

@@ -5,12 +5,11 @@
 
 ghost use Rattle.std.specs.Prelude.{◌<◌, ◌≤◌, ◌≡◌, length};
 ghost use Rattle.model.specs.State.{row_at};
-ghost use Rattle.model.specs.Insert.{lowest_free};
 ghost use Rattle.model.specs.Packed.{bit, succ_word, standing_number, rest_word, succ_from, standing_from, row_from, unpacked, packs_row};
 ghost use Rattle.packing.specs.OneRow.{Bytes};
-ghost use Rattle.packing.specs.Stored.{stored_row, stored};
+ghost use Rattle.packing.specs.Stored.{stored_row};
 
-use model::{Row, Standing, Succ, Write, free_row};
+use model::{Row, Standing, Succ, free_row};
 
 // ---- A row from its words ----
 
@@ -114,22 +113,6 @@ pub fn store_row(words: &mut [u32], i: u8, row: Row)
     }
 }
 
-// The rows that a line writes.
-#[tactic(auto, unfolding(packing::specs::Stored::stored))]
-pub fn store(words: &mut [u32], write: Write)
-    requires { length words.old ≡ 512 }
-    ensures { words.new ≡ stored words.old write }
-{
-    match write {
-        Write::NoRow => {}
-        Write::OneRow(i, row) => store_row(words, i, row),
-        Write::TwoRows(i, row, j, other) => {
-            store_row(words, i, row);
-            store_row(words, j, other);
-        }
-    }
-}
-
 // ---- Tests ----
 
 // Whether these are the last two words of a row: packing what they are read as gives them back.
@@ -141,20 +124,4 @@ pub fn packs_row(succ: u32, rest: u32) -> bool
         return rest_word(row_from(0, 0, succ, rest)) == rest;
     }
     false
-}
-
-// The lowest free row, 128 if there is none.
-pub fn lowest_free(words: &[u32]) -> u8
-    requires { length words.now ≡ 512 }
-    ensures { result ≡ lowest_free (unpacked words.now) }
-{
-    let mut i: u8 = 2;
-    while i < 128 {
-        let at = (i as usize) * 4 + 3;
-        if words[at] < 256 {
-            return i;
-        }
-        i += 1;
-    }
-    i
 }

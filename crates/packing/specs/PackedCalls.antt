@@ -19,7 +19,7 @@ use Rattle.model.specs.declared.Worker.{Worker}
 use Rattle.model.specs.declared.Catalogue.{Catalogue}
 use Rattle.model.specs.declared.Call.{Call}
 use Rattle.model.specs.declared.Call.TheVariants.{Submit, Step}
-use Rattle.model.specs.declared.Verdict.TheVariants.{Accepted, Refused}
+use Rattle.std.specs.Prelude.{Ok, Err}
 use Rattle.model.specs.declared.Refusal.{Refusal}
 use Rattle.model.specs.declared.Refusal.TheVariants.{NoSuchWorker, NotWellFormed}
 use Rattle.kept.specs.Conditions.{bool_cases, contradiction}
@@ -99,19 +99,19 @@ module _ (words : List ℕ) (workers : List Worker) where
 
   -- ---- What is refused leaves every word, and every worker's record ----
 
-  pub refused_leaves_words : (x : Call) (r : Refusal) → (packed_call words workers x).called.verdict ≡ Refused r
+  pub refused_leaves_words : (x : Call) (r : Refusal) → (packed_call words workers x).called.verdict ≡ Err r
       → packed_call words workers x ≡ refused_on r words workers
   refused_leaves_words x r h = elim (bool_cases (packs_rows words)) [
     | inl packs ↦
         let c = state_of words workers in
         let p = told_packing words packs in
         let made = call_packs c p x in
-        let refused : (call c x).verdict ≡ Refused r = sym (ap (λ (s : OnWords). s.called.verdict) made) ∙ h in
+        let refused : (call c x).verdict ≡ Err r = sym (ap (λ (s : OnWords). s.called.verdict) made) ∙ h in
         let stays = refused_changes_nothing c x r refused in
         made ∙ rw (refused, stays, p.packing)
     | inr none ↦
         let made = no_rows_refused words (λ rows p. contradiction (cc (packing_told words p, none))) workers x in
-        let which : Refused (one_or_four x) ≡ Refused r = sym (ap (λ (s : OnWords). s.called.verdict) made) ∙ h in
+        let which : Err (one_or_four x) ≡ Err r = sym (ap (λ (s : OnWords). s.called.verdict) made) ∙ h in
         made ∙ ap (λ (q : Refusal). refused_on q words workers) (cc)
   ]
 
@@ -154,12 +154,12 @@ reached_call_packs calls x = call_packs (run empty_catalogue calls) (reached_pac
 -- ---- A whole catalogue ----
 
 -- What was unpacked from words, packed into 512 words, is those words.
-pub pack_gives_back : (words : List ℕ) (workers : List Worker) → (unpack words workers).verdict ≡ Accepted → (others : List ℕ) → length others ≡ 512
+pub pack_gives_back : (words : List ℕ) (workers : List Worker) → (unpack words workers).verdict ≡ Ok tt → (others : List ℕ) → length others ≡ 512
     → pack_into (unpack words workers).state others ≡ words
 unfolding unpack pack_into
 pack_gives_back words workers h others size = rw (eq-eqb (length others) 512 size) (go (packs_rows words) refl h)
   where
-    go : (b : Bool) → packs_rows words ≡ b → (if b then accept (state_of words workers) else refuse NotWellFormed empty_catalogue).verdict ≡ Accepted
+    go : (b : Bool) → packs_rows words ≡ b → (if b then accept (state_of words workers) else refuse NotWellFormed empty_catalogue).verdict ≡ Ok tt
         → packed (if b then accept (state_of words workers) else refuse NotWellFormed empty_catalogue).state.rows ≡ words
     go true packs h = (packs_rows_lem words packs).again
     go false none h = contradiction (cc)

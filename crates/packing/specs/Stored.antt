@@ -92,7 +92,7 @@ row_stored_out words i r h =
 set_on : (a b c d : ℕ) (words : List ℕ) (i at v : ℕ) → at ≡ suc (suc (suc (suc i))) → set (a ∷ b ∷ c ∷ d ∷ words) at v ≡ a ∷ b ∷ c ∷ d ∷ set words i v
 set_on a b c d words i at v h = rw h
 
-row_stored_on : (a b c d : ℕ) (words : List ℕ) (i : ℕ) (r : Row) → stored_row (a ∷ b ∷ c ∷ d ∷ words) (suc i) r ≡ a ∷ b ∷ c ∷ d ∷ stored_row words i r
+pub row_stored_on : (a b c d : ℕ) (words : List ℕ) (i : ℕ) (r : Row) → stored_row (a ∷ b ∷ c ∷ d ∷ words) (suc i) r ≡ a ∷ b ∷ c ∷ d ∷ stored_row words i r
 unfolding stored_row
 row_stored_on a b c d words i r =
     rw (set_on a b c d words (i * 4) (suc i * 4) r.key (omega arith))

@@ -7,8 +7,8 @@ use Rattle.std.specs.Io.KnownBytes.{Appends}
 use Rattle.printer.specs.Written.{AppendsFront}
 use Rattle.model.specs.Schedule.{byte_at, two_bytes, stated_length, body, records_fit, file_verdict}
 use Rattle.model.specs.Printed.{refused_file, file_text, printed}
-use Rattle.model.specs.declared.Verdict.{Verdict}
-use Rattle.model.specs.declared.Verdict.TheVariants.{Accepted, Refused}
+use Rattle.model.specs.Verdict.{Verdict}
+use Rattle.std.specs.Prelude.{Ok, Err}
 use Rattle.model.specs.declared.Refusal.{Refusal}
 use Rattle.model.specs.declared.Refusal.TheVariants.{FileVersion, FileLength, FileRecord, FileTooLong}
 
@@ -17,20 +17,20 @@ abbrev why : ℕ → ℕ → Refusal
 why version stated = if not (eqb version 1) then FileVersion else if ltb 60000 stated then FileTooLong else FileLength
 
 tests : (version stated size : ℕ) (fits : Bool) → 60000 < size
-    → (if not (eqb version 1) then Refused FileVersion else if ltb 60000 stated then Refused FileTooLong
-    else if not (eqb stated size) then Refused FileLength else if not fits then Refused FileRecord else Accepted)
-    ≡ Refused (why version stated)
+    → (if not (eqb version 1) then Err FileVersion else if ltb 60000 stated then Err FileTooLong
+    else if not (eqb stated size) then Err FileLength else if not fits then Err FileRecord else (Ok tt))
+    ≡ Err (why version stated)
 tests version stated size fits h = go (not (eqb version 1)) (ltb 60000 stated) refl
   where
     go : (other big : Bool) → ltb 60000 stated ≡ big
-        → (if other then Refused FileVersion else if big then Refused FileTooLong
-        else if not (eqb stated size) then Refused FileLength else if not fits then Refused FileRecord else Accepted)
-        ≡ Refused (if other then FileVersion else if big then FileTooLong else FileLength)
+        → (if other then Err FileVersion else if big then Err FileTooLong
+        else if not (eqb stated size) then Err FileLength else if not fits then Err FileRecord else (Ok tt))
+        ≡ Err (if other then FileVersion else if big then FileTooLong else FileLength)
     go true big e = refl
     go false true e = refl
     go false false e = simp (ne_eqb stated size (omega (arith, ltb-false 60000 stated e)))
 
-long : (file : List ℕ) → 60003 < length file → file_verdict file ≡ Refused (why (byte_at file 0) (stated_length file))
+long : (file : List ℕ) → 60003 < length file → file_verdict file ≡ Err (why (byte_at file 0) (stated_length file))
 unfolding file_verdict
 long file h =
     let whole : ltb (length file) 3 ≡ false = le-ltb (length file) 3 (omega arith) in
@@ -43,16 +43,16 @@ module _ (n : ℕ) (file : List ℕ) (enough : 60003 < n) where
   unfolding two_bytes
   same_why = rw (get_or-take n file 0 0 (omega arith), get_or-take n file 1 0 (omega arith), get_or-take n file 2 0 (omega arith))
 
-  long_here : n ≤ length file → file_verdict file ≡ Refused (why (byte_at file 0) (stated_length file))
+  long_here : n ≤ length file → file_verdict file ≡ Err (why (byte_at file 0) (stated_length file))
   long_here h = long file (omega arith)
 
-  long_read : n ≤ length file → file_verdict (take n file) ≡ Refused (why (byte_at (take n file) 0) (stated_length (take n file)))
+  long_read : n ≤ length file → file_verdict (take n file) ≡ Err (why (byte_at (take n file) 0) (stated_length (take n file)))
   long_read h = long (take n file) (omega (arith, length-take-le n file h))
 
   pub read_verdict : file_verdict (take n file) ≡ file_verdict file
   read_verdict = elim (cases_lt (length file) n) [
     | inl h ↦ ap file_verdict (take_all n file (omega arith))
-    | inr h ↦ long_read h ∙ ap (λ (r : Refusal). Refused r) same_why ∙ sym (long_here h)
+    | inr h ↦ long_read h ∙ ap (λ (r : Refusal). Err r) same_why ∙ sym (long_here h)
   ]
 
   pub read_printed : printed (take n file) ≡ printed file

@@ -9,7 +9,7 @@ use Rattle.schedule.specs.declared.run.Run.{Run}
 use Rattle.schedule.specs.declared.run.Event.{Event}
 use Rattle.model.specs.Schedule.{body, calls_from, calls_of, file_verdict}
 use Rattle.model.specs.Printed.{heading, last_line, run_text, refused_file, file_text, printed}
-use Rattle.model.specs.declared.Verdict.TheVariants.{Accepted, Refused}
+use Rattle.std.specs.Prelude.{Ok, Err}
 use Rattle.model.specs.declared.Refusal.{Refusal}
 use Rattle.schedule.specs.Shown.{shown, Shows}
 use Rattle.schedule.specs.Events.{start_run, Happens}
@@ -30,7 +30,7 @@ pub record OnTheWay (file : List ℕ) (r : Run) (old new : Option (List ℕ)) : 
   pub whole : lines ++ left_to_print file r tries ≡ all_lines file
   pub written : Appends old new lines
 
-pub at_start : (file : List ℕ) (a : Option (List ℕ)) → file_verdict file ≡ Accepted → OnTheWay file start_run a a
+pub at_start : (file : List ℕ) (a : Option (List ℕ)) → file_verdict file ≡ Ok tt → OnTheWay file start_run a a
 unfolding calls_of
 at_start file a accepted =
     let short : length (body file) ≤ 60000 = accepted_short file accepted in
@@ -96,26 +96,26 @@ module _ {file : List ℕ} {r : Run} {a b : Option (List ℕ)} (before : OnTheWa
 -- ---- The whole file ----
 
 module _ (file : List ℕ) where
-  accepted_whole : {first : Text} → Accepted ≡ file_verdict file → Shows heading first → shown first ++ all_lines file ≡ printed file
+  accepted_whole : {first : Text} → (Ok tt) ≡ file_verdict file → Shows heading first → shown first ++ all_lines file ≡ printed file
   unfolding printed file_text
   accepted_whole accepted shows = rw (← accepted, shows.shows)
 
   -- with the heading before them, these are the bytes of an accepted file
-  pub all_told : (first : Text) (a b c : Option (List ℕ)) → Accepted ≡ file_verdict file → Shows heading first
+  pub all_told : (first : Text) (a b c : Option (List ℕ)) → (Ok tt) ≡ file_verdict file → Shows heading first
       → Appends a b (shown first) → Appends b c (all_lines file) → Appends a c (printed file)
   all_told first a b c accepted shows head told = subst (Appends a c) (accepted_whole accepted shows) (Appends-trans a b c _ _ head told)
 
-  pub stopped_in_heading : (first : Text) (a b : Option (List ℕ)) → Accepted ≡ file_verdict file → Shows heading first
+  pub stopped_in_heading : (first : Text) (a b : Option (List ℕ)) → (Ok tt) ≡ file_verdict file → Shows heading first
       → AppendsFront a b (shown first) → AppendsFront a b (printed file)
   stopped_in_heading first a b accepted shows part = subst (AppendsFront a b) (accepted_whole accepted shows) (longer a b (shown first) _ part)
 
-  pub stopped_in_lines : (first : Text) (a b c : Option (List ℕ)) → Accepted ≡ file_verdict file → Shows heading first
+  pub stopped_in_lines : (first : Text) (a b c : Option (List ℕ)) → (Ok tt) ≡ file_verdict file → Shows heading first
       → Appends a b (shown first) → AppendsFront b c (all_lines file) → AppendsFront a c (printed file)
   stopped_in_lines first a b c accepted shows head part =
       subst (AppendsFront a c) (accepted_whole accepted shows) (behind a b c (shown first) _ head part)
 
   -- one line is the bytes of a refused file
-  module _ (r : Refusal) (only : Text) (a b : Option (List ℕ)) (refused : Refused r ≡ file_verdict file) (shows : Shows (refused_file r) only) where
+  module _ (r : Refusal) (only : Text) (a b : Option (List ℕ)) (refused : Err r ≡ file_verdict file) (shows : Shows (refused_file r) only) where
     pub refused_told : Appends a b (shown only) → Appends a b (printed file)
     refused_told told = subst (Appends a b) (refused_prints file (sym refused) shows) told
 

@@ -5,7 +5,7 @@ use Rattle.std.specs.Io.KnownBytes.{Appends}
 use Rattle.model.specs.Schedule.{file_verdict}
 use Rattle.model.specs.Printed.{printed}
 use Rattle.model.proofs.OneOutcome.{determined}
-use Rattle.model.specs.declared.Verdict.{Verdict}
+use Rattle.model.specs.Verdict.{Verdict}
 
 pub replay_once : (file : List ℕ) (r q : Verdict) → r ≡ file_verdict file → q ≡ file_verdict file → r ≡ q
 replay_once file = determined (file_verdict file)

@@ -11,7 +11,7 @@ ghost use Rattle.std.specs.Prelude.{◌≡◌, IfSome, IfOk, OnOk, OnErr};
 ghost use Rattle.std.specs.Io.KnownBytes.{Appends};
 ghost use Rattle.model.specs.Schedule.{file_verdict};
 ghost use Rattle.model.specs.Printed.{printed};
-ghost use Rattle.model.specs.declared.Verdict.TheVariants.{Accepted};
+ghost use Rattle.std.specs.Prelude.{Ok};
 ghost use Rattle.printer.specs.Written.{AppendsFront, all_lines};
 
 pub use input::read_full;
@@ -23,8 +23,8 @@ use std::io::{Read, Write};
 
 // Each event, one after another, and the last line: of a file that is not refused these are the lines of its run.
 fn run_events<W: Write>(out: &mut W, file: &[u8]) -> io::Result<()>
-    ensures written { OnOk result (file_verdict file.now ≡ Accepted → Appends (W.contents out.old) (W.contents out.new) (all_lines file.now)) }
-    ensures stopped { OnErr result (file_verdict file.now ≡ Accepted → AppendsFront (W.contents out.old) (W.contents out.new) (all_lines file.now)) }
+    ensures written { OnOk result (file_verdict file.now ≡ Ok tt → Appends (W.contents out.old) (W.contents out.new) (all_lines file.now)) }
+    ensures stopped { OnErr result (file_verdict file.now ≡ Ok tt → AppendsFront (W.contents out.old) (W.contents out.new) (all_lines file.now)) }
 {
     let mut run = Run::start();
     while run.at < file.len() {
@@ -43,8 +43,8 @@ pub fn replay<W: Write>(out: &mut W, file: &[u8]) -> io::Result<Verdict>
 {
     let verdict = schedule_file::check(file);
     match verdict {
-        Verdict::Refused(refusal) => show(out, schedule::refused_file(refusal))?,
-        Verdict::Accepted => {
+        Err(refusal) => show(out, schedule::refused_file(refusal))?,
+        Ok(()) => {
             show(out, schedule::heading())?;
             run_events(out, file)?;
         }

@@ -5,7 +5,7 @@ use Rattle.std.proofs.Common.{ap, sym, ◌∙◌, append_assoc, arith, length-dr
 use Rattle.std.proofs.lemmas.Bool.{not-false}
 use Rattle.model.specs.Schedule.{stated_length, body, records_fit, byte_at, calls_from, calls_of, file_verdict}
 use Rattle.model.specs.Printed.{heading, last_line, run_text, refused_file, file_text, printed}
-use Rattle.model.specs.declared.Verdict.TheVariants.{Accepted, Refused}
+use Rattle.std.specs.Prelude.{Ok, Err}
 use Rattle.model.specs.declared.Refusal.{Refusal}
 use Rattle.model.specs.declared.Refusal.TheVariants.{FileVersion, FileLength, FileRecord, FileTooLong}
 use Rattle.schedule.specs.declared.text.Text.{Text}
@@ -65,7 +65,7 @@ ran_prints {file} {r} {end} (event {e = e} {texts = texts} inside h rest) (suc t
     ∙ sym (event_prints inside h tries fits)
 
 -- A file that is accepted has at most 60,000 bytes of records.
-pub accepted_short : (file : List ℕ) → file_verdict file ≡ Accepted → length (body file) ≤ 60000
+pub accepted_short : (file : List ℕ) → file_verdict file ≡ Ok tt → length (body file) ≤ 60000
 unfolding file_verdict
 accepted_short file h =
     let tests = go (nat_lt (length file) 3) (not (byte_at file 0 == 1)) (nat_lt 60000 (stated_length file))
@@ -73,8 +73,8 @@ accepted_short file h =
     omega (arith, ltb-false 60000 (stated_length file) tests.0, eqb-true (stated_length file) (length (body file)) (not-false _ tests.1))
   where
     go : (short version long length records : Bool)
-        → (if short then Refused FileLength else if version then Refused FileVersion else if long then Refused FileTooLong
-        else if length then Refused FileLength else if records then Refused FileRecord else Accepted) ≡ Accepted
+        → (if short then Err FileLength else if version then Err FileVersion else if long then Err FileTooLong
+        else if length then Err FileLength else if records then Err FileRecord else (Ok tt)) ≡ Ok tt
         → (long ≡ false) × (length ≡ false)
     go true version long length records h = absurd (let z : ◌≡◌ {A = ℕ} 0 1 = cc in omega arith)
     go false true long length records h = absurd (let z : ◌≡◌ {A = ℕ} 0 1 = cc in omega arith)
@@ -83,7 +83,7 @@ accepted_short file h =
     go false false false false records h = (refl, refl)
 
 -- All that is printed for a file that is not refused.
-pub run_prints : {file : List ℕ} {end : Run} {texts : List Text} {first last : Text} → file_verdict file ≡ Accepted
+pub run_prints : {file : List ℕ} {end : Run} {texts : List Text} {first last : Text} → file_verdict file ≡ Ok tt
     → Shows heading first → Ran file start_run texts end → Shows (last_line end.state) last
     → shown first ++ (all_shown texts ++ shown last) ≡ printed file
 unfolding printed file_text calls_of
@@ -94,7 +94,7 @@ run_prints {file} {end} {texts} accepted first ran last =
     (ran_prints ran (length (body file)) (omega (arith, length-drop 3 file)) (omega (arith, length-drop 3 file))))
 
 -- All that is printed for a file that is refused.
-pub refused_prints : (file : List ℕ) {r : Refusal} {only : Text} → file_verdict file ≡ Refused r → Shows (refused_file r) only
+pub refused_prints : (file : List ℕ) {r : Refusal} {only : Text} → file_verdict file ≡ Err r → Shows (refused_file r) only
     → shown only ≡ printed file
 unfolding printed file_text
 refused_prints file refused only = rw refused only.shows

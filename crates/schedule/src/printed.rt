@@ -171,8 +171,8 @@ pub fn event_text(event: u32, x: Call, s: Stepped) -> Text
     let verdict = s.verdict;
     let state = s.state;
     match verdict {
-        Verdict::Accepted => accepted_text(event, x, state),
-        Verdict::Refused(refusal) => refusal_line(event, call_worker(x), refusal),
+        Ok(()) => accepted_text(event, x, state),
+        Err(refusal) => refusal_line(event, call_worker(x), refusal),
     }
 }
 

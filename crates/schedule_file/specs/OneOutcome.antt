@@ -2,7 +2,7 @@
 use Rattle.std.specs.Prelude.{ℕ, ◌≡◌, List}
 use Rattle.model.specs.Schedule.{file_verdict, record_call}
 use Rattle.model.proofs.OneOutcome.{determined}
-use Rattle.model.specs.declared.Verdict.{Verdict}
+use Rattle.model.specs.Verdict.{Verdict}
 use Rattle.model.specs.declared.Call.{Call}
 
 pub check_once : (file : List ℕ) (v w : Verdict) → v ≡ file_verdict file → w ≡ file_verdict file → v ≡ w

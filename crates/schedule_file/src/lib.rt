@@ -75,24 +75,24 @@ pub fn check(file: &[u8]) -> Verdict
     ensures { result ≡ file_verdict file.now }
 {
     if file.len() < 3 {
-        return Verdict::Refused(Refusal::FileLength);
+        return Err(Refusal::FileLength);
     }
     let version = file[0];
     let stated = two_bytes(file, 1) as usize;
     let left = file.len() - 3;
     if version != 1 {
-        return Verdict::Refused(Refusal::FileVersion);
+        return Err(Refusal::FileVersion);
     }
     if 60000 < stated {
-        return Verdict::Refused(Refusal::FileTooLong);
+        return Err(Refusal::FileTooLong);
     }
     if stated != left {
-        return Verdict::Refused(Refusal::FileLength);
+        return Err(Refusal::FileLength);
     }
     if records_fit(file) {
-        return Verdict::Accepted;
+        return Ok(());
     }
-    Verdict::Refused(Refusal::FileRecord)
+    Err(Refusal::FileRecord)
 }
 
 // ---- The call of a record ----
