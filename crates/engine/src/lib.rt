@@ -1,11 +1,13 @@
-// The catalogue's calls by value, for every caller: submit, step and a turn. The contract of each says that its result is the model's
-// definition of it, for every state and every number. `effect_on` and `worker_after` are public for the crate `packed`, whose step is the
-// same but for where the rows are.
+// The catalogue's calls by value, for every caller: submit, step, any call, and a turn. The contract of each says that its result is the
+// model's definition of it, for every state and every number. `step_worker` is the step itself, on any table of rows and one worker's
+// record: the crate `packed` takes the same one.
 
 #![tactic(auto)]
 
+mod calls;
 mod steps;
 mod turns;
 
-pub use steps::{effect_on, step, submit, worker_after};
+pub use calls::{call, step, submit};
+pub use steps::step_worker;
 pub use turns::turn;

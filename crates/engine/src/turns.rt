@@ -2,62 +2,60 @@
 // without the check.
 
 ghost use Rattle.std.specs.Prelude.{◌<◌, ◌≡◌};
-ghost use Rattle.model.specs.Turn.{accepted, turn_from, turn};
+ghost use Rattle.model.specs.State.{worker_at};
+ghost use Rattle.model.specs.Turn.{turn_ends, turn_from, refuse_turn, turn};
 
-use crate::steps::step_worker;
+use crate::calls::step_worker;
 use accesses::is_idle;
 use model::{Catalogue, Refusal, Turned, Verdict, Worker};
 use well_formed::well_formed;
 
-fn accepted(verdict: Verdict) -> bool
-    ensures { result ≡ accepted verdict }
+// The worker's record.
+fn record_of(state: &Catalogue, worker: u8) -> Worker
+    requires { worker < 8 }
+    ensures { result ≡ worker_at state.now.workers worker }
 {
-    match verdict {
-        Ok(()) => true,
-        Err(_) => false,
+    state.workers[usize::from(worker)]
+}
+
+// The end of a turn of this worker: its record of the end state is what the lent one has become.
+fn turn_ends(worker: u8, verdict: Verdict, steps: u32, state: Catalogue) -> Turned
+    requires { worker < 8 }
+    ensures { result ≡ turn_ends worker verdict steps state }
+{
+    Turned {
+        verdict,
+        steps,
+        state,
+        lent: record_of(&state, worker),
     }
 }
 
 // The steps of a turn, from a state that is known to be well formed.
-fn turn_from(state: Catalogue, w: u8, budget: u32) -> Turned
-    requires { w < 8 }
-    ensures { result ≡ turn_from w budget 0 state }
+fn turn_from(state: Catalogue, worker: u8, budget: u32) -> Turned
+    requires { worker < 8 }
+    ensures { result ≡ turn_from worker budget 0 state }
 {
-    let mut now = state;
-    let j = w as usize;
-    let mut n: u32 = 0;
-    while n < budget {
-        let k = now.workers[j];
-        let line = k.line;
-        if is_idle(line) {
-            return Turned {
-                verdict: Ok(()),
-                steps: n,
-                state: now,
-                lent: k,
-            };
+    let mut state = state;
+    for steps in 0..budget {
+        if is_idle(record_of(&state, worker).line) {
+            return turn_ends(worker, Ok(()), steps, state);
         }
-        let stepped = step_worker(now, w);
-        let verdict = stepped.verdict;
-        if accepted(verdict) {
-            let next = stepped.state;
-            now = next;
-            n += 1;
-        } else {
-            return Turned {
-                verdict: verdict,
-                steps: n,
-                state: now,
-                lent: k,
-            };
+        if let Err(refusal) = step_worker(&mut state, worker) {
+            return turn_ends(worker, Err(refusal), steps, state);
         }
     }
-    let k = now.workers[j];
+    turn_ends(worker, Ok(()), budget, state)
+}
+
+fn refuse_turn(refusal: Refusal, state: Catalogue, lent: Worker) -> Turned
+    ensures { result ≡ refuse_turn refusal state lent }
+{
     Turned {
-        verdict: Ok(()),
-        steps: n,
-        state: now,
-        lent: k,
+        verdict: Err(refusal),
+        steps: 0,
+        state,
+        lent,
     }
 }
 
@@ -66,41 +64,19 @@ fn turn_from(state: Catalogue, w: u8, budget: u32) -> Turned
 pub fn turn(state: Catalogue, worker: u32, budget: u32, lent: Worker) -> Turned
     ensures { result ≡ turn state worker budget lent }
 {
-    let mut now = state;
     if 7 < worker {
-        return Turned {
-            verdict: Err(Refusal::NoSuchWorker),
-            steps: 0,
-            state: now,
-            lent: lent,
-        };
+        return refuse_turn(Refusal::NoSuchWorker, state, lent);
     }
-    let j = worker as usize;
-    now.workers[j] = lent;
+    let mut state = state;
+    state.workers[worker as usize] = lent;
     if 8192 < budget {
-        return Turned {
-            verdict: Err(Refusal::BudgetTooLarge),
-            steps: 0,
-            state: now,
-            lent: lent,
-        };
+        return refuse_turn(Refusal::BudgetTooLarge, state, lent);
     }
-    if well_formed(now) {
-        let line = lent.line;
-        if is_idle(line) {
-            return Turned {
-                verdict: Err(Refusal::WorkerIdle),
-                steps: 0,
-                state: now,
-                lent: lent,
-            };
-        }
-        return turn_from(now, worker as u8, budget);
+    if !well_formed(state) {
+        return refuse_turn(Refusal::NotWellFormed, state, lent);
     }
-    Turned {
-        verdict: Err(Refusal::NotWellFormed),
-        steps: 0,
-        state: now,
-        lent: lent,
+    if is_idle(lent.line) {
+        return refuse_turn(Refusal::WorkerIdle, state, lent);
     }
+    turn_from(state, worker as u8, budget)
 }

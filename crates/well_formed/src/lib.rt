@@ -10,11 +10,11 @@ ghost use Rattle.model.specs.declared.Row.{Row};
 ghost use Rattle.model.specs.declared.Worker.{Worker};
 ghost use Rattle.well_formed.specs.Holder.{holder};
 
-use accesses::{row_or_free, row_slot};
 use model::{
     Catalogue, HelpCaller, HelpLine, InsertLine, Line, Pending, Row, SearchCaller, SearchLine,
     Standing, Succ, Worker,
 };
+use tables::Table;
 
 fn both(a: bool, b: bool) -> bool
     ensures { result ≡ (a && b) }
@@ -372,9 +372,7 @@ pub fn well_formed(state: Catalogue) -> bool
         let k = state.workers[j];
         let line = k.line;
         let n = held_row(line);
-        let slot = row_slot(n);
-        let found = state.rows[slot];
-        if worker_well(w, k, row_or_free(n, found)) {
+        if worker_well(w, k, state.rows.row(n)) {
             w += 1;
         } else {
             return false;

@@ -40,8 +40,8 @@ loop-w-init c =
 pub loop-w-preserved : goal.loop-w-preserved
 loop-w-preserved c =
     let s = c.args.state in
-    let row = c.row_or_free.ensures s.rows c.loop-w.invariant.row_count (ap (row_at s.rows) (sym c.row_slot-slot.ensures.0)) in
-    let told = c.worker_well.ensures s.rows (ap (row_at s.rows) (sym c.held_row-n.ensures) ∙ sym row) in
+    let row = sym c.row.ensures.row in
+    let told = c.worker_well.ensures s.rows (ap (row_at s.rows) (sym c.held_row-n.ensures) ∙ row) in
     record {
       row_count = c.loop-w.invariant.row_count;
       worker_count = c.loop-w.invariant.worker_count;
@@ -54,8 +54,8 @@ pub returns-else-worker_well : goal.returns-else-worker_well
 unfolding well_formed
 returns-else-worker_well c =
     let s = c.args.state in
-    let row = c.row_or_free.ensures s.rows c.loop-w.invariant.row_count (ap (row_at s.rows) (sym c.row_slot-slot.ensures.0)) in
-    let told = c.worker_well.ensures s.rows (ap (row_at s.rows) (sym c.held_row-n.ensures) ∙ sym row) in
+    let row = sym c.row.ensures.row in
+    let told = c.worker_well.ensures s.rows (ap (row_at s.rows) (sym c.held_row-n.ensures) ∙ row) in
     let stop = c.loop-w.invariant.so_far ∙ all_stop (worker_well s.rows) s.workers c.loop-w.w _ (omega arith) (sym told ∙ c.if-worker_well.false) in
     simp (c.loop-w.invariant.rows_passed, stop)
 
