@@ -5,8 +5,8 @@ ghost use Rattle.std.specs.Prelude.{◌≡◌};
 ghost use Rattle.model.specs.Effects.{go, go_writing, finish, call_search_from, call_try_flag, call_help_flagged};
 
 use model::{
-    Answer, Effect, FlagFrame, FlagLine, HelpCaller, HelpFrame, HelpLine, Line, SearchCaller,
-    SearchFrame, SearchLine, Stack, Write,
+    Answer, Effect, FlagFrame, FlagLine, HelpFrame, HelpLine, Line, SearchFrame, SearchLine, Stack,
+    Write,
 };
 
 pub fn go(line: Line) -> Effect
@@ -31,33 +31,20 @@ pub fn finish(answer: Answer) -> Effect
     go(Line::Idle(answer))
 }
 
-pub fn call_search_from(key: u32, element: u32, curr: u8, caller: SearchCaller) -> Line
-    ensures { result ≡ call_search_from key element curr caller }
+pub fn call_search_from(frame: SearchFrame) -> Line
+    ensures { result ≡ call_search_from frame.key frame.element frame.curr frame.caller }
 {
-    let frame = SearchFrame {
-        key,
-        element,
-        curr,
-        caller,
-    };
     Line::Search(SearchLine::SearchFrom1, frame)
 }
 
-pub fn call_try_flag(key: u32, prev: u8, target: u8) -> Line
-    ensures { result ≡ call_try_flag key prev target }
+pub fn call_try_flag(frame: FlagFrame) -> Line
+    ensures { result ≡ call_try_flag frame.key frame.prev frame.target }
 {
-    Line::Flag(FlagLine::TryFlag2, FlagFrame { key, prev, target })
+    Line::Flag(FlagLine::TryFlag2, frame)
 }
 
-pub fn call_help_flagged(key: u32, element: u32, prev: u8, del: u8, caller: HelpCaller) -> Line
-    ensures { result ≡ call_help_flagged key element prev del caller }
+pub fn call_help_flagged(frame: HelpFrame) -> Line
+    ensures { result ≡ call_help_flagged frame.key frame.element frame.prev frame.del frame.caller }
 {
-    let frame = HelpFrame {
-        key,
-        element,
-        prev,
-        del,
-        caller,
-    };
     Line::Help(HelpLine::HelpFlagged1, frame)
 }

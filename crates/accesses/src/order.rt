@@ -5,7 +5,7 @@ ghost use Rattle.model.specs.Order.{key_at_most, key_below, has_key};
 
 use tables::Table;
 
-const HEAD: u8 = 0;
+pub const HEAD: u8 = 0;
 
 const TAIL: u8 = 1;
 

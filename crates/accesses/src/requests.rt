@@ -4,7 +4,8 @@ ghost use Rattle.std.specs.Prelude.{◌≡◌};
 ghost use Rattle.model.specs.Step.{is_request, first_line};
 
 use crate::effects::call_search_from;
-use model::{Line, SearchCaller};
+use crate::order::HEAD;
+use model::{Line, SearchCaller, SearchFrame};
 
 // 1 search, 2 insert, 3 delete.
 pub fn is_request(code: u32) -> bool
@@ -18,9 +19,15 @@ pub fn is_request(code: u32) -> bool
 pub fn first_line(code: u32, key: u32, element: u32) -> Line
     ensures { result ≡ first_line code key element }
 {
-    match code {
-        1 => call_search_from(key, 0, 0, SearchCaller::Search1),
-        2 => call_search_from(key, element, 0, SearchCaller::Insert1),
-        _ => call_search_from(key, 0, 0, SearchCaller::Delete1),
-    }
+    let (element, caller) = match code {
+        1 => (0, SearchCaller::Search1),
+        2 => (element, SearchCaller::Insert1),
+        _ => (0, SearchCaller::Delete1),
+    };
+    call_search_from(SearchFrame {
+        key,
+        element,
+        curr: HEAD,
+        caller,
+    })
 }

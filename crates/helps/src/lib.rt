@@ -9,10 +9,11 @@ use accesses::{
     call_help_flagged, cas, flagged_only, go, go_writing, help_marked_1, help_marked_2, succ_of,
 };
 use model::{
-    Effect, HelpCaller, HelpFrame, HelpLine, InsertLine, Line, Pending, Row, Stack, Write,
+    Effect, HelpCaller, HelpFrame, HelpLine, InsertFrame, InsertLine, Line, Pending, Row, Stack,
+    Write,
 };
 use tables::Table;
-use updates::{delete_7, insert_19, insert_frame};
+use updates::{delete_7, insert_19};
 
 fn with_backlink(row: Row, prev: u8) -> Row
     ensures { result ≡ with_backlink row prev }
@@ -60,20 +61,19 @@ fn try_mark_2<T: Table>(table: &T, f: HelpFrame) -> Effect
 fn try_mark_3<T: Table>(table: &T, f: HelpFrame, right: u8) -> Effect
     ensures { result ≡ try_mark_3 (T.rows table.now) f right }
 {
-    let HelpFrame {
-        key,
-        element,
-        prev,
-        del,
-        caller,
-    } = f;
-    let found = table.row(del).succ;
+    let found = table.row(f.del).succ;
     let unmarked = succ_of(right, false, false);
     let marked = succ_of(right, true, false);
-    let write = cas(table, del, unmarked, marked);
+    let write = cas(table, f.del, unmarked, marked);
     if flagged_only(found) {
+        let HelpFrame { prev, del, .. } = f;
+        let inner = HelpFrame {
+            prev: del,
+            del: found.right,
+            ..f
+        };
         return Effect {
-            line: call_help_flagged(key, element, del, found.right, caller),
+            line: call_help_flagged(inner),
             write,
             stack: Stack::Push(Pending { prev, del }),
         };
@@ -94,15 +94,16 @@ fn try_mark_6<T: Table>(table: &T, f: HelpFrame) -> Effect
 
 // The outermost HelpFlagged has returned.
 #[tactic(auto, unfolding(model::specs::HelpFlagged::help_flagged_returns))]
-fn help_flagged_returns<T: Table>(table: &T, key: u32, element: u32, caller: HelpCaller) -> Line
-    ensures { result ≡ help_flagged_returns (T.rows table.now) key element caller }
+fn help_flagged_returns<T: Table>(table: &T, f: HelpFrame) -> Line
+    ensures { result ≡ help_flagged_returns (T.rows table.now) f.key f.element f.caller }
 {
-    match caller {
-        HelpCaller::Insert8 { prev, new } => insert_19(key, element, prev, new),
-        HelpCaller::Insert16 { prev, new } => Line::Insert(
-            InsertLine::Insert17 { new },
-            insert_frame(key, element, prev),
-        ),
+    let HelpFrame { key, element, .. } = f;
+    match f.caller {
+        HelpCaller::Insert8 { prev, new } => insert_19(InsertFrame { key, element, prev }, new),
+        HelpCaller::Insert16 { prev, new } => {
+            let frame = InsertFrame { key, element, prev };
+            Line::Insert(InsertLine::Insert17 { new }, frame)
+        }
         HelpCaller::Delete6 { target, result } => delete_7(table, target, result),
     }
 }
@@ -120,8 +121,7 @@ fn help_flagged_4_help_marked_2<T: Table>(
 {
     let write = help_marked_2(table, f.prev, f.del, right);
     if count == 0 {
-        let line = help_flagged_returns(table, f.key, f.element, f.caller);
-        return go_writing(write, line);
+        return go_writing(write, help_flagged_returns(table, f));
     }
     let Pending { prev, del } = last;
     Effect {

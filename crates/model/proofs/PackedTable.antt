@@ -1,6 +1,6 @@
 -- Rows with their words, as literals, both ways; the empty catalogue's words; words that pack no rows; and words that pack rows, of which
 -- one is odd, with whether the state is well formed.
-use Rattle.std.specs.Prelude.{ℕ, ◌*◌, ◌+◌, Bool, true, false, ◌≡◌, refl, List, [], ◌∷◌, ◌++◌, map, set, drop, replicate}
+use Rattle.std.specs.Prelude.{ℕ, ◌*◌, ◌+◌, true, false, ◌≡◌, refl, List, [], ◌∷◌, ◌++◌, map, set, drop, replicate}
 use Rattle.model.specs.State.{succ_of, empty_catalogue, idle_worker}
 use Rattle.model.specs.Packed.{succ_word, rest_word, packed, succ_from, standing_from, row_from, unpacked, packs_row, packs_each, packs_rows, packed_well}
 use Rattle.model.specs.WellFormed.{well_formed, row_well, worker_well, named_is_held, holder_names, held_row, line_numbers, all_from}

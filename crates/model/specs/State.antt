@@ -1,6 +1,6 @@
 -- The fixed values of the catalogue's types (the free row, head and tail, an idle worker, the empty catalogue), and how rows,
 -- workers and helps are looked up. A look-up is total: past the end stands the free row, a fresh worker, no help.
-use Rattle.std.specs.Prelude.{if◌then◌else◌, ℕ, Bool, true, false, List, get_or, set, replicate}
+use Rattle.std.specs.Prelude.{ℕ, Bool, true, false, List, get_or, set, replicate}
 use Rattle.model.specs.declared.Row.{Row}
 use Rattle.model.specs.declared.Succ.{Succ}
 use Rattle.model.specs.declared.Pending.{Pending}

@@ -8,7 +8,7 @@ ghost use Rattle.model.specs.SearchFrom.{strict, reaches, search_2, search_from_
 use accesses::{
     finish, go, go_writing, has_key, help_marked_1, help_marked_2, key_at_most, key_below,
 };
-use model::{Answer, Effect, Line, SearchCaller, SearchFrame, SearchLine};
+use model::{Answer, Effect, FlagFrame, InsertFrame, Line, SearchCaller, SearchFrame, SearchLine};
 use tables::Table;
 use updates::{delete_2, insert_2, insert_20, try_flag_12};
 
@@ -55,12 +55,14 @@ fn search_from_10<T: Table>(table: &T, f: SearchFrame, next: u8) -> Effect
         curr,
         caller,
     } = f;
+    let prev = curr;
+    let insert = InsertFrame { key, element, prev };
     match caller {
         SearchCaller::Search1 => search_2(table, key, curr),
-        SearchCaller::Insert1 => insert_2(table, key, element, curr, next),
-        SearchCaller::Insert19 { new } => insert_20(table, key, element, curr, next, new),
-        SearchCaller::Delete1 => delete_2(table, key, curr, next),
-        SearchCaller::TryFlag11 { target } => try_flag_12(key, curr, next, target),
+        SearchCaller::Insert1 => insert_2(table, insert, next),
+        SearchCaller::Insert19 { new } => insert_20(table, insert, next, new),
+        SearchCaller::Delete1 => delete_2(table, key, prev, next),
+        SearchCaller::TryFlag11 { target } => try_flag_12(FlagFrame { key, prev, target }, next),
     }
 }
 

@@ -1,6 +1,6 @@
 -- A store into any words of 128 rows, read again, is the store to the rows; and into packed words it is the packing of the store.
-use Rattle.std.proofs.Common.{◌≡◌, ◌∙◌, sym, ap, refl, ℕ, zero, suc, ◌*◌, List, [], ◌∷◌, length, set, arith}
-use Rattle.model.specs.Packed.{unpacked, packed, row_from, succ_word, rest_word}
+use Rattle.std.proofs.Common.{◌≡◌, ◌∙◌, ap, refl, ℕ, zero, suc, ◌*◌, List, [], ◌∷◌, length, set, arith}
+use Rattle.model.specs.Packed.{unpacked, packed, row_from}
 use Rattle.model.specs.declared.Row.{Row}
 use Rattle.packing.specs.OneRow.{Bytes, row_back}
 use Rattle.packing.specs.Stored.{stored_row, row_stored_on, row_packed_stored}

@@ -7,7 +7,10 @@ use accesses::{
     call_help_flagged, call_search_from, call_try_flag, cas, finish, go, go_writing, has_key,
     same_succ, succ_of,
 };
-use model::{Answer, Effect, FlagFrame, FlagLine, HelpCaller, Line, SearchCaller, Succ};
+use model::{
+    Answer, Effect, FlagFrame, FlagLine, HelpCaller, HelpFrame, Line, SearchCaller, SearchFrame,
+    Succ,
+};
 use tables::Table;
 
 // Delete, lines 2 to 4.
@@ -16,7 +19,8 @@ pub fn delete_2<T: Table>(table: &T, key: u32, prev: u8, del: u8) -> Effect
     ensures { result ≡ delete_2 (T.rows table.now) key prev del }
 {
     if has_key(table, del, key) {
-        return go(call_try_flag(key, prev, del));
+        let target = del;
+        return go(call_try_flag(FlagFrame { key, prev, target }));
     }
     finish(Answer::Absent)
 }
@@ -25,12 +29,16 @@ pub fn delete_2<T: Table>(table: &T, key: u32, prev: u8, del: u8) -> Effect
 fn delete_6(f: FlagFrame, res: bool) -> Line
     ensures { result ≡ delete_6 f res }
 {
-    let FlagFrame { key, prev, target } = f;
-    let caller = HelpCaller::Delete6 {
-        target,
-        result: res,
-    };
-    call_help_flagged(key, 0, prev, target, caller)
+    call_help_flagged(HelpFrame {
+        key: f.key,
+        element: 0,
+        prev: f.prev,
+        del: f.target,
+        caller: HelpCaller::Delete6 {
+            target: f.target,
+            result: res,
+        },
+    })
 }
 
 // Delete, lines 7 to 9.
@@ -86,11 +94,15 @@ fn try_flag_4<T: Table>(table: &T, f: FlagFrame) -> Effect
 fn try_flag_9<T: Table>(table: &T, f: FlagFrame) -> Effect
     ensures { result ≡ try_flag_9 (T.rows table.now) f }
 {
-    let FlagFrame { key, prev, target } = f;
-    if table.row(prev).succ.mark {
+    if table.row(f.prev).succ.mark {
         return go(Line::Flag(FlagLine::TryFlag10, f));
     }
-    go(call_search_from(key, 0, prev, SearchCaller::TryFlag11 { target }))
+    go(call_search_from(SearchFrame {
+        key: f.key,
+        element: 0,
+        curr: f.prev,
+        caller: SearchCaller::TryFlag11 { target: f.target },
+    }))
 }
 
 // TryFlag, line 10.
@@ -104,11 +116,11 @@ fn try_flag_10<T: Table>(table: &T, f: FlagFrame) -> Effect
 
 // TryFlag, lines 12 and 13.
 #[tactic(auto, unfolding(model::specs::Delete::try_flag_12))]
-pub fn try_flag_12(key: u32, prev: u8, del: u8, target: u8) -> Effect
-    ensures { result ≡ try_flag_12 key prev del target }
+pub fn try_flag_12(f: FlagFrame, del: u8) -> Effect
+    ensures { result ≡ try_flag_12 f.key f.prev del f.target }
 {
-    if del == target {
-        return go(call_try_flag(key, prev, target));
+    if del == f.target {
+        return go(call_try_flag(f));
     }
     finish(Answer::Absent)
 }

@@ -2,7 +2,7 @@
 
 ghost use Rattle.std.specs.Prelude.{◌≡◌, List, length, set};
 ghost use Rattle.model.specs.State.{row_at};
-ghost use Rattle.model.specs.Insert.{insert_frame, insert_2, insert_20, insert_4, insert_6, insert_15, linked_row, insert_10_11, insert_19, insert_17, insert_18, insert_line};
+ghost use Rattle.model.specs.Insert.{insert_2, insert_20, insert_4, insert_6, insert_15, linked_row, insert_10_11, insert_19, insert_17, insert_18, insert_line};
 ghost use Rattle.model.specs.declared.Row.{Row};
 
 use accesses::{
@@ -10,40 +10,32 @@ use accesses::{
     lowest_free, same_succ, succ_of, with_succ,
 };
 use model::{
-    Answer, Effect, HelpCaller, InsertFrame, InsertLine, Line, Row, SearchCaller, Standing, Succ,
-    Write, free_row,
+    Answer, Effect, HelpCaller, HelpFrame, InsertFrame, InsertLine, Line, Row, SearchCaller,
+    SearchFrame, Standing, Succ, Write, free_row,
 };
 use tables::Table;
 
-pub fn insert_frame(key: u32, element: u32, prev: u8) -> InsertFrame
-    ensures { result ≡ insert_frame key element prev }
-{
-    InsertFrame { key, element, prev }
-}
-
 // Lines 2 and 3.
 #[tactic(auto, unfolding(model::specs::Insert::insert_2))]
-pub fn insert_2<T: Table>(table: &T, key: u32, element: u32, prev: u8, next: u8) -> Effect
-    ensures { result ≡ insert_2 (T.rows table.now) key element prev next }
+pub fn insert_2<T: Table>(table: &T, f: InsertFrame, next: u8) -> Effect
+    ensures { result ≡ insert_2 (T.rows table.now) f.key f.element f.prev next }
 {
-    if has_key(table, prev, key) {
+    if has_key(table, f.prev, f.key) {
         return finish(Answer::Duplicate);
     }
-    let frame = insert_frame(key, element, prev);
-    go(Line::Insert(InsertLine::Insert4 { next }, frame))
+    go(Line::Insert(InsertLine::Insert4 { next }, f))
 }
 
 // Lines 20 to 22.
 #[tactic(auto, unfolding(model::specs::Insert::insert_20))]
-pub fn insert_20<T: Table>(table: &T, key: u32, element: u32, prev: u8, next: u8, new: u8) -> Effect
-    ensures { result ≡ insert_20 (T.rows table.now) key element prev next new }
+pub fn insert_20<T: Table>(table: &T, f: InsertFrame, next: u8, new: u8) -> Effect
+    ensures { result ≡ insert_20 (T.rows table.now) f.key f.element f.prev next new }
 {
-    if has_key(table, prev, key) {
+    if has_key(table, f.prev, f.key) {
         let given_back = Write::OneRow(new, free_row());
         return go_writing(given_back, Line::Idle(Answer::Duplicate));
     }
-    let frame = insert_frame(key, element, prev);
-    go(Line::Insert(InsertLine::Insert6 { next, new }, frame))
+    go(Line::Insert(InsertLine::Insert6 { next, new }, f))
 }
 
 // Line 4.
@@ -73,8 +65,13 @@ fn insert_6<T: Table>(table: &T, f: InsertFrame, next: u8, new: u8) -> Effect
     let InsertFrame { key, element, prev } = f;
     let found = table.row(prev).succ;
     if found.flag {
-        let caller = HelpCaller::Insert8 { prev, new };
-        return go(call_help_flagged(key, element, prev, found.right, caller));
+        return go(call_help_flagged(HelpFrame {
+            key,
+            element,
+            prev,
+            del: found.right,
+            caller: HelpCaller::Insert8 { prev, new },
+        }));
     }
     go(Line::Insert(InsertLine::Insert11 { next, new }, f))
 }
@@ -86,8 +83,13 @@ fn insert_15(f: InsertFrame, new: u8, res: Succ) -> Line
 {
     let InsertFrame { key, element, prev } = f;
     if flagged_only(res) {
-        let caller = HelpCaller::Insert16 { prev, new };
-        return call_help_flagged(key, element, prev, res.right, caller);
+        return call_help_flagged(HelpFrame {
+            key,
+            element,
+            prev,
+            del: res.right,
+            caller: HelpCaller::Insert16 { prev, new },
+        });
     }
     Line::Insert(InsertLine::Insert17 { new }, f)
 }
@@ -132,10 +134,15 @@ fn insert_10_11<T: Table>(table: &T, f: InsertFrame, next: u8, new: u8) -> Effec
 }
 
 // Line 19.
-pub fn insert_19(key: u32, element: u32, prev: u8, new: u8) -> Line
-    ensures { result ≡ insert_19 key element prev new }
+pub fn insert_19(f: InsertFrame, new: u8) -> Line
+    ensures { result ≡ insert_19 f.key f.element f.prev new }
 {
-    call_search_from(key, element, prev, SearchCaller::Insert19 { new })
+    call_search_from(SearchFrame {
+        key: f.key,
+        element: f.element,
+        curr: f.prev,
+        caller: SearchCaller::Insert19 { new },
+    })
 }
 
 // Line 17.
@@ -146,7 +153,7 @@ fn insert_17<T: Table>(table: &T, f: InsertFrame, new: u8) -> Effect
     if table.row(f.prev).succ.mark {
         return go(Line::Insert(InsertLine::Insert18 { new }, f));
     }
-    go(insert_19(f.key, f.element, f.prev, new))
+    go(insert_19(f, new))
 }
 
 // Line 18.

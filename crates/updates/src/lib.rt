@@ -7,4 +7,4 @@ mod delete;
 mod insert;
 
 pub use delete::{delete_2, delete_7, flag_line, try_flag_12};
-pub use insert::{insert_2, insert_19, insert_20, insert_frame, insert_line};
+pub use insert::{insert_2, insert_19, insert_20, insert_line};

@@ -1,5 +1,5 @@
 -- The lowest free row is the lowest from i on.
-use Rattle.std.proofs.Common.{◌-◌, ◌≤◌, ◌≡◌}
+use Rattle.std.proofs.Common.{◌-◌, ◌≡◌}
 use Rattle.model.specs.Insert.{lowest_free, lowest_free_from}
 use Rattle.accesses.proofs.free_rows.lowest_free.Given as goal
 

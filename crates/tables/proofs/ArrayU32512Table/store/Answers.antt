@@ -1,5 +1,5 @@
-use Rattle.std.proofs.Common.{◌∙◌, sym, ap, arith}
-use Rattle.model.specs.Packed.{unpacked, packed}
+use Rattle.std.proofs.Common.{◌∙◌, ap, arith}
+use Rattle.model.specs.Packed.{unpacked}
 use Rattle.tables.proofs.Stores.{unpacked_stored, sound_stored}
 use Rattle.tables.proofs.ArrayU32512Table.store.Goals as goal
 
