@@ -5,6 +5,3 @@ use Rattle.lent.specs.declared.TurnResult.{TurnResult}
 
 abbrev pub result_of : Turned → TurnResult
 result_of t = record { verdict = t.verdict; steps = t.steps; state = t.state }
-
-abbrev pub turned_with : TurnResult → Worker → Turned
-turned_with result lent = record { verdict = result.verdict; steps = result.steps; state = result.state; lent = lent }
