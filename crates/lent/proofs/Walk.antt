@@ -10,7 +10,7 @@ use Rattle.model.specs.WellFormed.{all_from, row_numbers}
 use Rattle.model.specs.Count.{walk, is_save, saves_among, countable}
 use Rattle.model.specs.declared.Row.{Row}
 
--- the model counts the rows, the library does not
+-- the model's test of every row knows the row's number, the library's does not
 pub all_numbers : (i : ℕ) (rows : List Row) → list_all row_numbers rows ≡ all_from (λ j row. row_numbers row) i rows
 unfolding all_from
 all_numbers i [] = refl
@@ -46,4 +46,5 @@ module _ (rows : List Row) where
   moves_on (suc left) at l n = grind (arith, common_steps)
   moves_on zero at l n = absurd (omega arith)
 
+-- what the loop uses
 pub ruleset walking = (all_128, right_inside, no_moves, at_tail, moves_on)

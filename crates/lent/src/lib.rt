@@ -39,8 +39,8 @@ fn is_save(rows: &[Row], at: usize) -> bool
     at > TAIL && rows[at].standing == Standing::Linked
 }
 
-// The rows are lent, any number of them. Refusal 4 unless they are 128 and no row number among them is above 127. The walk goes right from
-// the head; `_left` moves are left after each, and none is made from the tail.
+// The rows are lent, any number of them. Refusal 4 unless they are 128 and no row number among them is above 127. Else a walk goes right
+// from the head, with `_left` moves to go after each, and stops where it comes to the tail.
 #[tactic(auto, using(crate::proofs::Walk::walking), unfolding(model::specs::Count::count, model::specs::Count::saves))]
 pub fn count(rows: &[Row]) -> Result<u32, Refusal>
     ensures { result ≡ count rows.now }

@@ -1,4 +1,4 @@
--- The library says what `all` answers, as `list_all`.
+-- The closure is the model's test of a row, and `all` answers `list_all` of it.
 use Rattle.std.proofs.Common.{◌∙◌, rules, tests}
 use Rattle.std.proofs.lemmas.Iterator.{YieldsList-from_slice}
 use Rattle.std.proofs.lemmas.Iterator.Search.{all_from_yields_List}
