@@ -1,5 +1,4 @@
--- What a turn gives, in two parts: what is returned, and the lent record.
-use Rattle.model.specs.declared.Worker.{Worker}
+-- What a turn returns: all that it gives but the lent record.
 use Rattle.model.specs.declared.Turned.{Turned}
 use Rattle.lent.specs.declared.TurnResult.{TurnResult}
 
