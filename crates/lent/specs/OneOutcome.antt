@@ -1,22 +1,22 @@
 -- The contracts of the public functions determine their results, what is lent included: two outcomes that a contract allows are the same.
 -- The rows that `count` is lent are read only, so they are the same before and after.
-use Rattle.std.specs.Prelude.{◌≡◌, List, ℕ}
+use Rattle.std.specs.Prelude.{◌≡◌, Result, List, ℕ}
 use Rattle.std.proofs.Common.{sym, ◌∙◌}
 use Rattle.model.specs.Count.{count}
 use Rattle.model.specs.Turn.{turn}
 use Rattle.model.proofs.OneOutcome.{determined}
 use Rattle.model.specs.declared.Row.{Row}
 use Rattle.model.specs.declared.Catalogue.{Catalogue}
-use Rattle.model.specs.declared.Counted.{Counted}
+use Rattle.model.specs.declared.Refusal.{Refusal}
 use Rattle.model.specs.declared.Worker.{Worker}
 use Rattle.model.specs.declared.Turned.{Turned}
 use Rattle.lent.specs.declared.TurnResult.{TurnResult}
 use Rattle.lent.specs.Result.{result_of}
 
-pub count_once : (rows : List Row) (r s : Counted) → r ≡ count rows → s ≡ count rows → r ≡ s
+pub count_once : (rows : List Row) (r s : Result ℕ Refusal) → r ≡ count rows → s ≡ count rows → r ≡ s
 count_once rows = determined (count rows)
 
-pub count_of_once : (state : Catalogue) (r s : Counted) → r ≡ count state.rows → s ≡ count state.rows → r ≡ s
+pub count_of_once : (state : Catalogue) (r s : Result ℕ Refusal) → r ≡ count state.rows → s ≡ count state.rows → r ≡ s
 count_of_once state = determined (count state.rows)
 
 -- the result, and the record that was lent as it is found afterwards

@@ -1,10 +1,6 @@
--- What a turn gives, in two parts: what is returned, and the lent record.
-use Rattle.model.specs.declared.Worker.{Worker}
+-- What a turn returns: all that it gives but the lent record.
 use Rattle.model.specs.declared.Turned.{Turned}
 use Rattle.lent.specs.declared.TurnResult.{TurnResult}
 
 abbrev pub result_of : Turned → TurnResult
 result_of t = record { verdict = t.verdict; steps = t.steps; state = t.state }
-
-abbrev pub turned_with : TurnResult → Worker → Turned
-turned_with result lent = record { verdict = result.verdict; steps = result.steps; state = result.state; lent = lent }

@@ -1,14 +1,11 @@
--- What the count on its way comes to stays the count of the rows lent, and each turn of the loop leaves fewer rows ahead.
-use Rattle.std.proofs.Common.{◌≡◌}
-use Rattle.model.specs.Count.{count}
-use Rattle.lent.proofs.Finish.{Good, ahead, finish}
+-- What the walk has counted, with what is left of it, is what the model counts.
+use Rattle.std.proofs.Common.{◌≡◌, ◌+◌, ◌<◌, ◌≤◌}
+use Rattle.model.specs.Count.{walk, saves_among, saves}
 use Rattle.lent.proofs.count.Given as goal
 
-abbrev pub invariant-loop-c : goal.invariant-loop-c
-invariant-loop-c l = record {
-  good : Good l.rows l.c;
-  same : finish l.rows l.c ≡ count l.rows;
+abbrev pub invariant-loop-left : goal.invariant-loop-left
+invariant-loop-left l = record {
+  inside : l.at < 128;
+  few : l.saves + l._left ≤ 128;
+  same : l.saves + saves_among l.rows (walk l._left l.rows l.at) ≡ saves l.rows;
 }
-
-abbrev pub decreases-loop-c : goal.decreases-loop-c
-decreases-loop-c l = ahead l.c
