@@ -59,18 +59,16 @@ fn begin(
     Ok(())
 }
 
-pub fn step(state: Catalogue, worker: u32) -> Stepped
+pub fn step(mut state: Catalogue, worker: u32) -> Stepped
     ensures { result ≡ step state worker }
 {
-    let mut state = state;
     let verdict = take_step(&mut state, worker);
     Stepped { verdict, state }
 }
 
-pub fn submit(state: Catalogue, worker: u32, code: u32, key: u32, element: u32) -> Stepped
+pub fn submit(mut state: Catalogue, worker: u32, code: u32, key: u32, element: u32) -> Stepped
     ensures { result ≡ submit state worker code key element }
 {
-    let mut state = state;
     let verdict = begin(&mut state, worker, code, key, element);
     Stepped { verdict, state }
 }

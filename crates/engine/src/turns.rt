@@ -32,11 +32,10 @@ fn turn_ends(worker: u8, verdict: Verdict, steps: u32, state: Catalogue) -> Turn
 }
 
 // The steps of a turn, from a state that is known to be well formed.
-fn turn_from(state: Catalogue, worker: u8, budget: u32) -> Turned
+fn turn_from(mut state: Catalogue, worker: u8, budget: u32) -> Turned
     requires { worker < 8 }
     ensures { result ≡ turn_from worker budget 0 state }
 {
-    let mut state = state;
     for steps in 0..budget {
         if is_idle(record_of(&state, worker).line) {
             return turn_ends(worker, Ok(()), steps, state);
@@ -61,13 +60,12 @@ fn refuse_turn(refusal: Refusal, state: Catalogue, lent: Worker) -> Turned
 
 // Turn, refusals 1, 11, 4, 3. The lent record stands for the worker's in the checks and in the state returned.
 #[tactic(auto, unfolding(model::specs::Turn::turn, model::specs::Turn::turn_of))]
-pub fn turn(state: Catalogue, worker: u32, budget: u32, lent: Worker) -> Turned
+pub fn turn(mut state: Catalogue, worker: u32, budget: u32, lent: Worker) -> Turned
     ensures { result ≡ turn state worker budget lent }
 {
     if 7 < worker {
         return refuse_turn(Refusal::NoSuchWorker, state, lent);
     }
-    let mut state = state;
     state.workers[worker as usize] = lent;
     if 8192 < budget {
         return refuse_turn(Refusal::BudgetTooLarge, state, lent);
