@@ -10,7 +10,7 @@ use Rattle.model.specs.declared.FlagFrame.{FlagFrame}
 use Rattle.model.specs.declared.HelpLine.{HelpLine}
 use Rattle.model.specs.declared.HelpFrame.{HelpFrame}
 use Rattle.model.specs.declared.Line.TheVariants.{Search, Insert, Flag, Help}
-use Rattle.kept.specs.Conditions.{both, both_hold}
+use Rattle.std.proofs.lemmas.Bool.{and_parts, and_from}
 
 pub record SearchNumbers (l : SearchLine) (f : SearchFrame) : Type 0 where
   pub line : search_line_numbers l ≡ true
@@ -34,46 +34,46 @@ pub record HelpNumbers (l : HelpLine) (f : HelpFrame) : Type 0 where
 pub search_numbers : (l : SearchLine) (f : SearchFrame) → line_numbers (Search l f) ≡ true → SearchNumbers l f
 unfolding line_numbers
 search_numbers l f h =
-    let outer = both (search_line_numbers l && is_row f.curr) _ h in
-    let inner = both (search_line_numbers l) _ outer.0 in
+    let outer = and_parts (search_line_numbers l && is_row f.curr) _ h in
+    let inner = and_parts (search_line_numbers l) _ outer.0 in
     record { line = inner.0; curr = inner.1; caller = outer.1 }
 
 pub if_search_numbers : (l : SearchLine) (f : SearchFrame) → SearchNumbers l f → line_numbers (Search l f) ≡ true
 unfolding line_numbers
 if_search_numbers l f n =
-    both_hold (search_line_numbers l && is_row f.curr) _ (both_hold (search_line_numbers l) _ n.line n.curr) n.caller
+    and_from (search_line_numbers l && is_row f.curr) _ (and_from (search_line_numbers l) _ n.line n.curr) n.caller
 
 pub insert_numbers : (l : InsertLine) (f : InsertFrame) → line_numbers (Insert l f) ≡ true → InsertNumbers l f
 unfolding line_numbers
 insert_numbers l f h =
-    let parts = both (insert_line_numbers l) _ h in
+    let parts = and_parts (insert_line_numbers l) _ h in
     record { line = parts.0; prev = parts.1 }
 
 pub if_insert_numbers : (l : InsertLine) (f : InsertFrame) → InsertNumbers l f → line_numbers (Insert l f) ≡ true
 unfolding line_numbers
-if_insert_numbers l f n = both_hold (insert_line_numbers l) _ n.line n.prev
+if_insert_numbers l f n = and_from (insert_line_numbers l) _ n.line n.prev
 
 pub flag_numbers : (l : FlagLine) (f : FlagFrame) → line_numbers (Flag l f) ≡ true → FlagNumbers f
 unfolding line_numbers
 flag_numbers l f h =
-    let parts = both (is_row f.prev) _ h in
+    let parts = and_parts (is_row f.prev) _ h in
     record { prev = parts.0; target = parts.1 }
 
 pub if_flag_numbers : (l : FlagLine) (f : FlagFrame) → FlagNumbers f → line_numbers (Flag l f) ≡ true
 unfolding line_numbers
-if_flag_numbers l f n = both_hold (is_row f.prev) _ n.prev n.target
+if_flag_numbers l f n = and_from (is_row f.prev) _ n.prev n.target
 
 pub help_numbers : (l : HelpLine) (f : HelpFrame) → line_numbers (Help l f) ≡ true → HelpNumbers l f
 unfolding line_numbers
 help_numbers l f h =
-    let outer = both (help_line_numbers l && is_row f.prev && is_row f.del) _ h in
-    let middle = both (help_line_numbers l && is_row f.prev) _ outer.0 in
-    let inner = both (help_line_numbers l) _ middle.0 in
+    let outer = and_parts (help_line_numbers l && is_row f.prev && is_row f.del) _ h in
+    let middle = and_parts (help_line_numbers l && is_row f.prev) _ outer.0 in
+    let inner = and_parts (help_line_numbers l) _ middle.0 in
     record { line = inner.0; prev = inner.1; del = middle.1; caller = outer.1 }
 
 pub if_help_numbers : (l : HelpLine) (f : HelpFrame) → HelpNumbers l f → line_numbers (Help l f) ≡ true
 unfolding line_numbers
 if_help_numbers l f n =
-    both_hold (help_line_numbers l && is_row f.prev && is_row f.del) _
-    (both_hold (help_line_numbers l && is_row f.prev) _ (both_hold (help_line_numbers l) _ n.line n.prev) n.del)
+    and_from (help_line_numbers l && is_row f.prev && is_row f.del) _
+    (and_from (help_line_numbers l && is_row f.prev) _ (and_from (help_line_numbers l) _ n.line n.prev) n.del)
     n.caller

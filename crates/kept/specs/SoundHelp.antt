@@ -27,16 +27,16 @@ use Rattle.kept.specs.LineNumbers.{HelpNumbers}
 use Rattle.kept.specs.NextLine.{NextLine, to_insert, to_help, to_help_flagged, to_search_from}
 use Rattle.kept.specs.Sound.{Sound, SuccNumbers, GoodRows, one_row, cas_written, moves, writes, reads}
 use Rattle.kept.specs.SoundDelete.{delete_7_next}
-use Rattle.kept.specs.Conditions.{both, both_hold}
+use Rattle.std.proofs.lemmas.Bool.{and_parts, and_from}
 
 returns_next : (rows : List Row) (count : ℕ) → count ≡ 0 → (key element : ℕ) (caller : HelpCaller) → help_caller_numbers caller ≡ true
     → NextLine (held_in_help caller) count (help_flagged_returns rows key element caller)
 unfolding help_flagged_returns
 returns_next rows count none key element (Insert8 prev new) c =
-    let parts = both (is_row prev) _ c in
+    let parts = and_parts (is_row prev) _ c in
     to_search_from count none key element prev (Insert19 new) parts.0 parts.1
 returns_next rows count none key element (Insert16 prev new) c =
-    let parts = both (is_row prev) _ c in
+    let parts = and_parts (is_row prev) _ c in
     to_insert count none (Insert17 new) _ (record { line = parts.1; prev = parts.0 })
 returns_next rows count none key element (Delete6 target result) c = delete_7_next count rows target result
 
@@ -76,7 +76,7 @@ module _ (rows : List Row) (good : GoodRows rows) (w count : ℕ) (last : Pendin
       let marked : SuccNumbers (succ_of right true false) = record { right = n; apart = refl } in
       let swapped = cas_written rows good f.del (succ_of right false false) _ del marked in
       let next = to_help_flagged count f.key f.element f.del _ f.caller del right_is_row caller in
-      let pushed = both_hold (is_row f.prev) _ prev del in
+      let pushed = and_from (is_row f.prev) _ prev del in
       if_known HelpSound (flagged_only (succ_at rows f.del))
       (λ _. moves rows good w (held_in_help f.caller) count _ _ (Push _) next.numbers next.names swapped (refl, pushed))
       (λ _. writes rows good w (held_in_help f.caller) count _ _ swapped (next_line TryMark6 refl))
@@ -90,7 +90,7 @@ module _ (rows : List Row) (good : GoodRows rows) (w count : ℕ) (last : Pendin
   help_flagged_4_help_marked_2_sound right n =
       let unlinking : SuccNumbers (succ_of right false false) = record { right = n; apart = refl } in
       let swapped = cas_written rows good f.prev (succ_of f.del false true) _ prev unlinking in
-      let (last_prev, last_del) = both (is_row last.prev) _ last_numbers in
+      let (last_prev, last_del) = and_parts (is_row last.prev) _ last_numbers in
       let again = to_help count TryMark6 _ (record { line = refl; prev = last_prev; del = last_del; caller = caller }) in
       if_known HelpSound (eqb count 0)
       (λ none. writes rows good w (held_in_help f.caller) count _ _ swapped

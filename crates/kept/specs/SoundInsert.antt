@@ -28,7 +28,8 @@ use Rattle.kept.specs.WellFormedFacts.{RowNumbers, free_row_numbers}
 use Rattle.kept.specs.Sound.{Standings, kept, taken, given_up, RowStep, Sound, SuccNumbers, GoodRows, with_succ_lem, is_inside, succ_written, writes, reads}
 use Rattle.kept.specs.NextLine.{NextLine, to_idle, to_insert, to_help_flagged, to_search_from}
 use Rattle.kept.specs.LineNumbers.{InsertNumbers}
-use Rattle.kept.specs.Conditions.{clash, both, both_hold}
+use Rattle.kept.specs.Conditions.{clash}
+use Rattle.std.proofs.lemmas.Bool.{and_parts, and_from}
 use Rattle.kept.specs.Stores.{after_store}
 use Rattle.kept.specs.Standing.{held_not_linked, free_not_held}
 use Rattle.kept.specs.FreeRows.{lowest_is_free}
@@ -96,7 +97,7 @@ module _ (rows : List Row) (good : GoodRows rows) (w count : ℕ) where
     insert_20_sound key element prev next new isrow p n =
         if_known (Sound rows w new count) (has_key rows prev key)
         (λ _. finishes new _ Duplicate (gives_up new free_row isrow free_row_numbers (λ v held. free_not_held refl held)))
-        (λ _. read_on (Insert6 next new) (insert_frame key element prev) (record { line = both_hold (is_row next) _ n isrow; prev = p }))
+        (λ _. read_on (Insert6 next new) (insert_frame key element prev) (record { line = and_from (is_row next) _ n isrow; prev = p }))
 
     insert_4_sound : (f : InsertFrame) (next : ℕ) → InsertNumbers (Insert4 next) f
         → Sound rows w no_row_held count (insert_4 rows w f next)
@@ -105,7 +106,7 @@ module _ (rows : List Row) (good : GoodRows rows) (w count : ℕ) where
         let new = lowest_free rows in
         if_known (Sound rows w no_row_held count) (ltb new 128)
         (λ isrow. record {
-          numbers = both_hold (is_row next && is_row new) _ (both_hold (is_row next) _ n.line isrow) n.prev;
+          numbers = and_from (is_row next && is_row new) _ (and_from (is_row next) _ n.line isrow) n.prev;
           steps = takes new _ isrow (record { right = refl; backlink = refl; apart = refl }) (lowest_is_free rows isrow) refl;
           stack = λ _ _. none;
         })
@@ -115,7 +116,7 @@ module _ (rows : List Row) (good : GoodRows rows) (w count : ℕ) where
         → Sound rows w new count (insert_6 rows f next new)
     unfolding insert_6
     insert_6_sound f next new n =
-        let caller = both_hold (is_row f.prev) _ n.prev (both (is_row next) _ n.line).1 in
+        let caller = and_from (is_row f.prev) _ n.prev (and_parts (is_row next) _ n.line).1 in
         let right_is_row = (good.numbers f.prev).right in
         let helping = to_help_flagged count f.key f.element _ _ (Insert8 f.prev new) n.prev right_is_row caller in
         if_known (Sound rows w new count) (succ_at rows f.prev).flag
@@ -128,7 +129,7 @@ module _ (rows : List Row) (good : GoodRows rows) (w count : ℕ) where
     unfolding insert_15
     insert_15_next f new result isnew p r =
         if_known (NextLine new count) (flagged_only result)
-        (λ _. to_help_flagged count f.key f.element _ _ (Insert16 f.prev new) p r (both_hold (is_row f.prev) _ p isnew))
+        (λ _. to_help_flagged count f.key f.element _ _ (Insert16 f.prev new) p r (and_from (is_row f.prev) _ p isnew))
         (λ _. to_insert count none (Insert17 new) f (record { line = isnew; prev = p }))
 
     -- On success the held row is linked first, and then prev points to it: prev may be the held row itself.
@@ -151,7 +152,7 @@ module _ (rows : List Row) (good : GoodRows rows) (w count : ℕ) where
         → Sound rows w new count (insert_10_11 rows f next new)
     unfolding insert_10_11 written
     insert_10_11_sound f next new n =
-        let (isnext, isnew) = both (is_row next) _ n.line in
+        let (isnext, isnew) = and_parts (is_row next) _ n.line in
         let store = succ_of next false false in
         let result = succ_at (set rows new (with_succ (row_at rows new) store)) f.prev in
         let stored = succ_written rows good new store isnew (record { right = isnext; apart = refl }) in

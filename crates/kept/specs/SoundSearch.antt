@@ -24,7 +24,7 @@ use Rattle.kept.specs.NextLine.{to_idle, to_search}
 use Rattle.kept.specs.Sound.{Sound, SuccNumbers, GoodRows, cas_written, writes, reads}
 use Rattle.kept.specs.SoundInsert.{insert_2_sound, insert_20_sound}
 use Rattle.kept.specs.SoundDelete.{delete_2_sound, try_flag_12_sound}
-use Rattle.kept.specs.Conditions.{both, both_hold}
+use Rattle.std.proofs.lemmas.Bool.{and_parts, and_from}
 
 module _ (rows : List Row) (good : GoodRows rows) (w count : ℕ) (none : count ≡ 0) where
   search_2_sound : (key curr : ℕ) → Sound rows w no_row_held count (search_2 rows key curr)
@@ -118,9 +118,9 @@ module _ (rows : List Row) (good : GoodRows rows) (w count : ℕ) (none : count 
     line_sound (SearchFrom3CurrMark next) n = search_from_3_curr_mark_sound next n
     line_sound (SearchFrom3CurrRight next) n = search_from_3_curr_right_sound next n
     line_sound (SearchFrom4 next) n = search_from_4_sound next n
-    line_sound (SearchFrom5HelpMarked1 next) n = read_on _ (both_hold (is_row next) _ n (good.numbers next).right)
+    line_sound (SearchFrom5HelpMarked1 next) n = read_on _ (and_from (is_row next) _ n (good.numbers next).right)
     line_sound (SearchFrom5HelpMarked2 next right) n =
-        let unlinking : SuccNumbers (succ_of right false false) = record { right = (both (is_row next) _ n).1; apart = refl } in
+        let unlinking : SuccNumbers (succ_of right false false) = record { right = (and_parts (is_row next) _ n).1; apart = refl } in
         writes rows good w (held_in_search f.caller) count _ _
         (cas_written rows good f.curr (succ_of next false true) _ isrow unlinking)
         (to_search count none SearchFrom6 f (record { line = refl; curr = isrow; caller = caller }))

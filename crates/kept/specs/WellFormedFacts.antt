@@ -12,7 +12,8 @@ use Rattle.model.specs.declared.Standing.{Standing}
 use Rattle.model.specs.declared.Standing.TheVariants.{Free, Held, Linked}
 use Rattle.model.specs.declared.Answer.TheVariants.{NoAnswer}
 use Rattle.kept.specs.Sized.{Sized}
-use Rattle.kept.specs.Conditions.{clash, both, both_hold, every, if_every}
+use Rattle.kept.specs.Conditions.{clash, every, if_every}
+use Rattle.std.proofs.lemmas.Bool.{and_parts, and_from}
 use Rattle.kept.specs.Standing.{is_linked_lem, is_held, free_not_held, held_not_linked, one_holder}
 
 -- ---- The clauses ----
@@ -53,7 +54,7 @@ module _ (workers : List Worker) (i : ℕ) where
   holder_named Free h v e = absurd (free_not_held refl e)
   holder_named (Held u) h v e =
       let same : u ≡ v = one_holder {s = Held u} refl e in
-      let parts = both (ltb u 8) _ h in
+      let parts = and_parts (ltb u 8) _ h in
       (rw same at (ltb-true u 8 parts.0), rw same at (eqb-true (held_row (worker_at workers u).line) i parts.1))
   holder_named Linked h v e = absurd (held_not_linked e refl)
 
@@ -61,17 +62,17 @@ module _ (workers : List Worker) (i : ℕ) where
       → holder_names workers i s ≡ true
   unfolding holder_names
   if_holder_named Free h = refl
-  if_holder_named (Held v) h = both_hold (ltb v 8) _ (lt-ltb v 8 (h v refl).0) (eq-eqb _ _ (h v refl).1)
+  if_holder_named (Held v) h = and_from (ltb v 8) _ (lt-ltb v 8 (h v refl).0) (eq-eqb _ _ (h v refl).1)
   if_holder_named Linked h = refl
 
   pub row_facts : (r : Row) → row_well workers i r ≡ true → RowWell workers i r
   unfolding row_well
   row_facts r h =
       let s = r.standing in
-      let held = both (row_numbers r && not_both r.succ && ends_linked i s) _ h in
-      let ended = both (row_numbers r && not_both r.succ) _ held.0 in
-      let parted = both (row_numbers r) _ ended.0 in
-      let numbered = both (is_row r.succ.right) _ parted.0 in
+      let held = and_parts (row_numbers r && not_both r.succ && ends_linked i s) _ h in
+      let ended = and_parts (row_numbers r && not_both r.succ) _ held.0 in
+      let parted = and_parts (row_numbers r) _ ended.0 in
+      let numbered = and_parts (is_row r.succ.right) _ parted.0 in
       record {
         numbers = record { right = numbered.0; backlink = numbered.1; apart = parted.1 };
         ends = λ l. is_linked_lem s (rw (lt-ltb i 2 l) at ended.1);
@@ -82,9 +83,9 @@ module _ (workers : List Worker) (i : ℕ) where
   unfolding row_well
   row_test r h =
       let s = r.standing in
-      both_hold (row_numbers r && not_both r.succ && ends_linked i s) _
-      (both_hold (row_numbers r && not_both r.succ) _
-      (both_hold (row_numbers r) _ (both_hold (is_row r.succ.right) _ h.numbers.right h.numbers.backlink) h.numbers.apart)
+      and_from (row_numbers r && not_both r.succ && ends_linked i s) _
+      (and_from (row_numbers r && not_both r.succ) _
+      (and_from (row_numbers r) _ (and_from (is_row r.succ.right) _ h.numbers.right h.numbers.backlink) h.numbers.apart)
       (if_known (λ b. b ≡ true) (ltb i 2) (λ l. rw (h.ends (ltb-true i 2 l))) (λ l. refl)))
       (if_holder_named s h.holder)
 
@@ -96,10 +97,10 @@ module _ (rows : List Row) (w : ℕ) where
   worker_facts k h =
       let numbers = line_numbers k.line in
       let slots = all_from pending_numbers 0 k.helps in
-      let held = both (numbers && slots && few_helps k && helps_inside k) _ h in
-      let outside = both (numbers && slots && few_helps k) _ held.0 in
-      let counted = both (numbers && slots) _ outside.0 in
-      let numbered = both numbers _ counted.0 in
+      let held = and_parts (numbers && slots && few_helps k && helps_inside k) _ h in
+      let outside = and_parts (numbers && slots && few_helps k) _ held.0 in
+      let counted = and_parts (numbers && slots) _ outside.0 in
+      let numbered = and_parts numbers _ counted.0 in
       record {
         numbers = numbered.0;
         helps = record {
@@ -115,9 +116,9 @@ module _ (rows : List Row) (w : ℕ) where
   worker_test k h =
       let numbers = line_numbers k.line in
       let slots = all_from pending_numbers 0 k.helps in
-      both_hold (numbers && slots && few_helps k && helps_inside k) _
-      (both_hold (numbers && slots && few_helps k) _
-      (both_hold (numbers && slots) _ (both_hold numbers _ h.numbers h.helps.slots) (le-leb _ _ h.helps.few))
+      and_from (numbers && slots && few_helps k && helps_inside k) _
+      (and_from (numbers && slots && few_helps k) _
+      (and_from (numbers && slots) _ (and_from numbers _ h.numbers h.helps.slots) (le-leb _ _ h.helps.few))
       (if_known (λ b. b ≡ true) (inside_help_flagged k.line) (λ _. refl) (λ out. eq-eqb _ _ (h.helps.inside out))))
       (if_known (λ b. b ≡ true) (eqb (held_row k.line) no_row_held) (λ _. refl)
       (λ n. rw (h.named (λ e. clash (eq-eqb _ _ e) n)) (eq-eqb w w refl)))
@@ -128,7 +129,7 @@ module _ (c : Catalogue) (sized : Sized c) where
   pub well_formed_facts : well_formed c ≡ true → WellFormed c
   unfolding well_formed
   well_formed_facts h =
-      let parts = both (all_from (row_well c.workers) 0 c.rows) _ h in
+      let parts = and_parts (all_from (row_well c.workers) 0 c.rows) _ h in
       record {
         rows = λ i l. row_facts c.workers i _ (every _ c.rows free_row parts.0 i (rw sized.rows l));
         workers = λ w l. worker_facts c.rows w _ (every _ c.workers (idle_worker NoAnswer) parts.1 w (rw sized.workers l));
@@ -137,6 +138,6 @@ module _ (c : Catalogue) (sized : Sized c) where
   pub well_formed_test : WellFormed c → well_formed c ≡ true
   unfolding well_formed
   well_formed_test h =
-      both_hold (all_from (row_well c.workers) 0 c.rows) _
+      and_from (all_from (row_well c.workers) 0 c.rows) _
       (if_every _ c.rows free_row (λ i l. row_test c.workers i _ (h.rows i (rw sized.rows at l))))
       (if_every _ c.workers (idle_worker NoAnswer) (λ w l. worker_test c.rows w _ (h.workers w (rw sized.workers at l))))

@@ -1,7 +1,7 @@
 -- The refusals of the count and of a schedule file come in document 01's order.
 use Rattle.std.specs.Prelude.{ℕ, zero, suc, ◌≤◌, ◌<◌, Bool, true, false, not, ◌&&◌, ◌||◌, ◌≡◌, refl, ◌≢◌, ◌⊎◌, List, [], ◌∷◌, length, drop, ltb, eqb}
 use Rattle.std.proofs.Common.{inl, inr, arith, length-drop, ltb-true, ltb-false, leb-true, eqb-true, eq-eqb, ne_eqb, le-leb}
-use Rattle.std.proofs.lemmas.Bool.{eqb-false, not-true, not-false}
+use Rattle.std.proofs.lemmas.Bool.{and_parts, or_cases, eqb-false, not-true, not-false}
 use Rattle.model.specs.WellFormed.{all_from, is_row, row_numbers}
 use Rattle.model.specs.Count.{countable, count, count_verdict}
 use Rattle.model.specs.Schedule.{byte_at, two_bytes, stated_length, body, record_fits, records_fit, file_verdict}
@@ -15,10 +15,6 @@ use Rattle.model.specs.declared.Refusal.TheVariants.{NotWellFormed}
 
 -- ---- Tests ----
 
-both : (a b : Bool) → a && b ≡ true → (a ≡ true) × (b ≡ true)
-both true b h = (refl, h)
-both false b h = absurd (clash h refl)
-
 not_both_lem : (a b : Bool) → a && b ≡ false → (a ≡ false) ⊎ (b ≡ false)
 not_both_lem true b h = inr h
 not_both_lem false b h = inl refl
@@ -31,12 +27,12 @@ all_below k [] h (i, l, _) = omega arith
 all_below k (r ∷ rows) h (zero, l, bad) = outside bad
   where
     parts : (is_row r.succ.right ≡ true) × (is_row r.backlink ≡ true)
-    parts = both (is_row r.succ.right) (is_row r.backlink) (both (row_numbers r) (all_from (λ i r. row_numbers r) (suc k) rows) h).0
+    parts = and_parts (is_row r.succ.right) (is_row r.backlink) (and_parts (row_numbers r) (all_from (λ i r. row_numbers r) (suc k) rows) h).0
 
     outside : (127 < r.succ.right) ⊎ (127 < r.backlink) → ⊥
     outside (inl b) = omega (arith, ltb-true r.succ.right 128 parts.0)
     outside (inr b) = omega (arith, ltb-true r.backlink 128 parts.1)
-all_below k (r ∷ rows) h (suc i, l, bad) = all_below (suc k) rows (both (row_numbers r) _ h).1 (i, omega arith, bad)
+all_below k (r ∷ rows) h (suc i, l, bad) = all_below (suc k) rows (and_parts (row_numbers r) _ h).1 (i, omega arith, bad)
 
 module _ (r : Row) (rows : List Row) where
   above_here : (is_row r.succ.right ≡ false) ⊎ (is_row r.backlink ≡ false) → NumberAbove (r ∷ rows)
@@ -64,8 +60,8 @@ count_order rows = by_test said (countable rows) counts refuses
     said t = First (count_grounds rows) (count_verdict t)
 
     fine : countable rows ≡ true → ¬ ((length rows ≢ 128) ⊎ NumberAbove rows)
-    fine h (inl other) = other (eqb-true (length rows) 128 (both _ _ h).0)
-    fine h (inr bad) = all_below 0 rows (both (eqb (length rows) 128) _ h).1 bad
+    fine h (inl other) = other (eqb-true (length rows) 128 (and_parts _ _ h).0)
+    fine h (inr bad) = all_below 0 rows (and_parts (eqb (length rows) 128) _ h).1 bad
 
     counts : countable rows ≡ true → First (count_grounds rows) (Ok tt)
     counts h = a_later (fine h) no_ground
@@ -79,13 +75,9 @@ count_order rows = by_test said (countable rows) counts refuses
 
 -- ---- File ----
 
-one_of : (a b : Bool) → a || b ≡ true → (a ≡ true) ⊎ (b ≡ true)
-one_of true b h = inl refl
-one_of false b h = inr h
-
 fits_size : (n : ℕ) (rest : List ℕ) → record_fits n rest ≡ true → ((n ≡ 1) ⊎ (n ≡ 10)) × (n ≤ length rest)
 unfolding record_fits
-fits_size n rest h = (size (one_of _ _ (both (eqb n 1 || eqb n 10) _ h).0), leb-true n (length rest) (both (eqb n 1 || eqb n 10) _ h).1)
+fits_size n rest h = (size (or_cases _ _ (and_parts (eqb n 1 || eqb n 10) _ h).0), leb-true n (length rest) (and_parts (eqb n 1 || eqb n 10) _ h).1)
   where
     size : (eqb n 1 ≡ true) ⊎ (eqb n 10 ≡ true) → (n ≡ 1) ⊎ (n ≡ 10)
     size (inl e) = inl (eqb-true n 1 e)
@@ -102,8 +94,8 @@ fit_records zero [] h = no_record
 fit_records zero (n ∷ rest) h = absurd (clash h refl)
 fit_records (suc tries) [] h = no_record
 fit_records (suc tries) (n ∷ rest) h =
-    let fits = fits_size n rest (both (record_fits n rest) _ h).0 in
-    a_record fits.0 fits.1 (fit_records tries (drop n rest) (both (record_fits n rest) _ h).1)
+    let fits = fits_size n rest (and_parts (record_fits n rest) _ h).0 in
+    a_record fits.0 fits.1 (fit_records tries (drop n rest) (and_parts (record_fits n rest) _ h).1)
 
 records_fit_lem : (tries : ℕ) (bytes : List ℕ) → length bytes ≤ tries → Records bytes → records_fit tries bytes ≡ true
 unfolding records_fit

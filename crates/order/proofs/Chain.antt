@@ -5,7 +5,7 @@ use Rattle.order.proofs.Table.{Table, right_of, mark_of, rank_of, IsLinked, Regu
 use Rattle.order.proofs.Structure.{Structure}
 use Rattle.order.proofs.StructureFacts.{head_rank, below_not_tail, marked_not_tail}
 use Rattle.order.proofs.Compared.{Compared, less, equal, more, compared}
-use Rattle.kept.specs.Conditions.{bool_cases}
+use Rattle.std.proofs.lemmas.Bool.{cases_Bool}
 
 pub data OnChain (R : Table) : ℕ → Type 0 where
   at_head : OnChain R 0
@@ -23,7 +23,7 @@ module _ {top : ℕ} {R : Table} (sound : Structure top R) where
           → OnChain R z
       go (equal e) further = rw (sound.same x z l lz e) at c
       go (more e) further = absurd (omega arith)
-      go (less e) further = next (bool_cases (mark_of R (right_of R x)))
+      go (less e) further = next (cases_Bool (mark_of R (right_of R x)))
         where
           not_tail : x ≢ 1
           not_tail = below_not_tail sound x z lz.linked e

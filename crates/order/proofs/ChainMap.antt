@@ -16,7 +16,8 @@ use Rattle.order.proofs.Distinct.{Among}
 use Rattle.order.proofs.TableMap.{Has, shown_has, has_shown}
 use Rattle.order.specs.PlainMap.{PlainMap}
 use Rattle.order.proofs.MapOfTable.{Entry, IsMapOf}
-use Rattle.kept.specs.Conditions.{clash, bool_cases}
+use Rattle.kept.specs.Conditions.{clash}
+use Rattle.std.proofs.lemmas.Bool.{cases_Bool}
 
 -- the element of the first of these rows that is unmarked and has key k
 unfoldable pub element_among : List Row → ℕ → List ℕ → Option ℕ
@@ -45,7 +46,7 @@ module _ (rows : List Row) (k : ℕ) where
   looked : (xs : List ℕ) → Looked xs (element_among rows k xs)
   unfolding element_among
   looked [] = nowhere (λ x m u q. Memᴰ.not-nil m)
-  looked (x ∷ xs) = go (bool_cases (mark_of (row_at rows) x)) (ℕ_discrete (row_at rows x).key k) (looked xs)
+  looked (x ∷ xs) = go (cases_Bool (mark_of (row_at rows) x)) (ℕ_discrete (row_at rows x).key k) (looked xs)
     where
       go : (mark_of (row_at rows) x ≡ true) ⊎ (mark_of (row_at rows) x ≡ false) → Dec ((row_at rows x).key ≡ k)
           → Looked xs (element_among rows k xs)

@@ -19,7 +19,8 @@ use Rattle.order.proofs.MapAt.{map_at}
 use Rattle.order.proofs.Moments.{reading, Kind, reads_only, is_full, kind, adds as adds_kind, removes as removes_kind}
 use Rattle.order.proofs.Removals.{MarkedAt, removal_marked}
 use Rattle.order.proofs.MapChanges.{Change, adds, removes, change_unfinished, RemovesMarked}
-use Rattle.kept.specs.Conditions.{clash, bool_cases, contradiction}
+use Rattle.kept.specs.Conditions.{clash, contradiction}
+use Rattle.std.proofs.lemmas.Bool.{cases_Bool}
 use Rattle.kept.specs.Ways.{effect_in, line_of}
 use Rattle.model.specs.State.{idle}
 use Rattle.model.specs.declared.Succ.{Succ}
@@ -161,7 +162,7 @@ module _ {top : ℕ} {start : Catalogue} {calls : List Call} (ready : Ready top 
     request_fate : Course ready s w code key element (length calls) → Fate s
     request_fate (over f a h e) = finished_fate f a e
     request_fate (under_way r) = go (ℕ_discrete (removed_at ready (length calls) w) no_row_removed)
-        (bool_cases (mark_of (TableAt ready (length calls)) (removed_at ready (length calls) w)))
+        (cases_Bool (mark_of (TableAt ready (length calls)) (removed_at ready (length calls) w)))
       where
         go : Dec (removed_at ready (length calls) w ≡ no_row_removed)
             → (mark_of (TableAt ready (length calls)) (removed_at ready (length calls) w) ≡ true)

@@ -5,7 +5,8 @@ use borrow.Author.Tests.{ltb-true, ltb-false, leb-true, leb-false, eqb-true, eqb
 use Rattle.order.proofs.Table.{rank, rank_of}
 use Rattle.order.proofs.StructureFacts.{save_rank}
 use Rattle.order.proofs.Facts.{reach}
-use Rattle.kept.specs.Conditions.{clash, both}
+use Rattle.kept.specs.Conditions.{clash}
+use Rattle.std.proofs.lemmas.Bool.{and_parts}
 use Rattle.model.specs.State.{row_at}
 use Rattle.model.proofs.Choices.{if_known}
 use Rattle.model.specs.Order.{key_at_most, key_below, has_key}
@@ -92,8 +93,8 @@ same_bit_lem false b h = sym (not-true b h)
 pub same_succ_lem : (s t : Succ) → same_succ s t ≡ true → s ≡ t
 unfolding same_succ
 same_succ_lem s t h =
-    let a = both (eqb s.right t.right && same_bit s.mark t.mark) (same_bit s.flag t.flag) h in
-    let b = both (eqb s.right t.right) (same_bit s.mark t.mark) a.0 in
+    let a = and_parts (eqb s.right t.right && same_bit s.mark t.mark) (same_bit s.flag t.flag) h in
+    let b = and_parts (eqb s.right t.right) (same_bit s.mark t.mark) a.0 in
     let right = eqb-true s.right t.right b.0 in
     let mark = same_bit_lem s.mark t.mark b.1 in
     let flag = same_bit_lem s.flag t.flag a.1 in
@@ -110,4 +111,4 @@ same_succ_refl s t e =
 
 pub flagged_only_lem : (s : Succ) → flagged_only s ≡ true → s.flag ≡ true
 unfolding flagged_only
-flagged_only_lem s h = (both (not s.mark) s.flag h).1
+flagged_only_lem s h = (and_parts (not s.mark) s.flag h).1

@@ -11,7 +11,8 @@ use Rattle.std.proofs.lemmas.Bool.{not-true}
 use Rattle.order.specs.Demand.{state_at, line_at, Accepts, Request, Finished}
 use Rattle.order.proofs.OneRequest.{any_default}
 use Rattle.order.proofs.SavesFound.{NoDeleteFlags, stored_save_found}
-use Rattle.kept.specs.Conditions.{clash, both}
+use Rattle.kept.specs.Conditions.{clash}
+use Rattle.std.proofs.lemmas.Bool.{and_parts}
 use Rattle.kept.specs.Ways.{line_of}
 use Rattle.model.specs.State.{idle, empty_catalogue}
 use Rattle.model.proofs.Computed.{computed}
@@ -39,10 +40,10 @@ through_each : (p : ℕ → Bool) (i n : ℕ) → through p i n ≡ true → (j 
 unfolding through
 through_each p i zero h j low high = absurd (omega arith)
 through_each p i (suc n) h j low high =
-    let both = both (p i) (through p (suc i) n) h in
+    let and_parts = and_parts (p i) (through p (suc i) n) h in
     elim (ℕ_discrete j i) [
-      | yes e ↦ ap p e ∙ both.0
-      | no e ↦ through_each p (suc i) n both.1 j (omega arith) (omega arith)
+      | yes e ↦ ap p e ∙ and_parts.0
+      | no e ↦ through_each p (suc i) n and_parts.1 j (omega arith) (omega arith)
     ]
 
 -- ---- A run goes on ----

@@ -7,7 +7,7 @@ use mathlib.Core.List.{List, [], ◌∷◌}
 use native.Mathlib.Omega.{arith}
 use Rattle.std.proofs.Math.Decide.{ℕ_discrete}
 use Rattle.order.proofs.Distinct.{Among, Distinct, no_number, one_more}
-use Rattle.kept.specs.Conditions.{bool_cases}
+use Rattle.std.proofs.lemmas.Bool.{cases_Bool}
 use Rattle.model.proofs.Choices.{if_known}
 
 unfoldable pub picked : (ℕ → Bool) → ℕ → List ℕ
@@ -29,7 +29,7 @@ module _ (p : ℕ → Bool) where
   pub picked_passes : (s n : ℕ) → Among s (picked p n) → (s < n) × (p s ≡ true)
   unfolding picked
   picked_passes s zero m = absurd (Memᴰ.not-nil m)
-  picked_passes s (suc n) m = go (bool_cases (p n)) m (λ h. picked_passes s n h)
+  picked_passes s (suc n) m = go (cases_Bool (p n)) m (λ h. picked_passes s n h)
     where
       more : (s < n) × (p s ≡ true) → (s < suc n) × (p s ≡ true)
       more (below, passes) = (omega arith, passes)

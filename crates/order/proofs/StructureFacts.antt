@@ -5,7 +5,8 @@ use Rattle.std.proofs.Common.{ap, inl, inr, arith}
 use Rattle.order.proofs.Table.{Table, right_of, mark_of, flag_of, back_of, rank, rank_of, IsLinked, Regular}
 use Rattle.order.proofs.Structure.{Structure, Helpable, flagged_for, already_marked}
 use Rattle.order.proofs.Compared.{Compared, less, equal, more, compared}
-use Rattle.kept.specs.Conditions.{clash, bool_cases}
+use Rattle.kept.specs.Conditions.{clash}
+use Rattle.std.proofs.lemmas.Bool.{cases_Bool}
 
 -- the rank of a row that is neither end
 pub save_rank : (top x key : ℕ) → x ≢ 0 → x ≢ 1 → rank top x key ≡ suc key
@@ -49,7 +50,7 @@ module _ {top : ℕ} {R : Table} (sound : Structure top R) where
 
   -- the neighbour of a regular row without a flag is regular
   pub unflagged_right_unmarked : (x : ℕ) → Regular R x → x ≢ 1 → flag_of R x ≡ false → mark_of R (right_of R x) ≡ false
-  unflagged_right_unmarked x l h f = go (bool_cases (mark_of R (right_of R x)))
+  unflagged_right_unmarked x l h f = go (cases_Bool (mark_of R (right_of R x)))
     where
       go : (mark_of R (right_of R x) ≡ true) ⊎ (mark_of R (right_of R x) ≡ false) → mark_of R (right_of R x) ≡ false
       go (inl t) = absurd (clash (sound.marked_is_flagged x l h t) f)

@@ -11,7 +11,8 @@ use Rattle.order.proofs.MovesKeep.{Grown, grown_refl, grown_trans, grow}
 use Rattle.order.proofs.MarkOf.{mark_of_lem, marked_by}
 use Rattle.order.proofs.TableMap.{Has, Lacks, rank_of_save, lacks_between, lacks_marked}
 use Rattle.order.proofs.MapMoves.{mark_removes}
-use Rattle.kept.specs.Conditions.{clash, bool_cases}
+use Rattle.kept.specs.Conditions.{clash}
+use Rattle.std.proofs.lemmas.Bool.{cases_Bool}
 
 -- the step that marked row x
 pub record MarkedWithin (R : ℕ → Table) (t u x : ℕ) : Type 0 where
@@ -64,7 +65,7 @@ module _ {top : ℕ} (R : ℕ → Table) (who : ℕ → ℕ) (sound : (t : ℕ) 
 
   -- no mark is taken back
   pub unmarked_earlier : (t u x : ℕ) → t ≤ u → mark_of (R u) x ≡ false → mark_of (R t) x ≡ false
-  unmarked_earlier t u x h k = go (bool_cases (mark_of (R t) x))
+  unmarked_earlier t u x h k = go (cases_Bool (mark_of (R t) x))
     where
       go : (mark_of (R t) x ≡ true) ⊎ (mark_of (R t) x ≡ false) → mark_of (R t) x ≡ false
       go (inl q) = absurd (clash ((grown_later t u x h ((sound t).mark_linked x q)).mark q) k)
@@ -73,7 +74,7 @@ module _ {top : ℕ} (R : ℕ → Table) (who : ℕ → ℕ) (sound : (t : ℕ) 
   marked_after : (t n x : ℕ) → mark_of (R t) x ≡ false → mark_of (R (t + n)) x ≡ true → MarkedWithin R t (t + n) x
   marked_after t zero x h k = absurd (clash (rw add-zero at k) h)
   marked_after t (suc n) x h k =
-      subst (λ (u : ℕ). MarkedWithin R t u x) (sym (add-suc t n)) (go (bool_cases (mark_of (R (t + n)) x)) (λ q. marked_after t n x h q))
+      subst (λ (u : ℕ). MarkedWithin R t u x) (sym (add-suc t n)) (go (cases_Bool (mark_of (R (t + n)) x)) (λ q. marked_after t n x h q))
     where
       k' : mark_of (R (suc (t + n))) x ≡ true
       k' = rw add-suc at k
@@ -123,7 +124,7 @@ module _ {top : ℕ} (R : ℕ → Table) (who : ℕ → ℕ) (sound : (t : ℕ) 
 
   -- A linked row that was not marked at t was regular since, with the right neighbour that it has now.
   pub regular_within : (t u x : ℕ) → t ≤ u → mark_of (R t) x ≡ false → IsLinked (R u) x → RegularWithin R t u x (right_of (R u) x)
-  regular_within t u x h f l = go (bool_cases (mark_of (R u) x))
+  regular_within t u x h f l = go (cases_Bool (mark_of (R u) x))
     where
       go : (mark_of (R u) x ≡ true) ⊎ (mark_of (R u) x ≡ false) → RegularWithin R t u x (right_of (R u) x)
       go (inl q) =
@@ -161,7 +162,7 @@ module _ {top : ℕ} (R : ℕ → Table) (who : ℕ → ℕ) (sound : (t : ℕ) 
   -- x was regular below key k, and its right neighbour n a save of key k: n was unmarked at t, or k was absent.
   pub unmarked_or_lacks : (t u x n k : ℕ) → RegularWithin R t u x n → x ≢ 1 → rank_of top (R u) x < suc k → 1 < n → (R u n).key ≡ k
       → (mark_of (R t) n ≡ false) ⊎ LacksWithin R t u k
-  unmarked_or_lacks t u x n k was not_tail below save key = go (bool_cases (mark_of (R j) n))
+  unmarked_or_lacks t u x n k was not_tail below save key = go (cases_Bool (mark_of (R j) n))
     where
       j : ℕ
       j = was.time
@@ -190,7 +191,7 @@ module _ {top : ℕ} (R : ℕ → Table) (who : ℕ → ℕ) (sound : (t : ℕ) 
   pub lacks_past_other : (t u x n y k : ℕ) → t ≤ u → RegularWithin R t u x n → x ≢ 1 → rank_of top (R u) x < suc k
       → suc k ≤ rank_of top (R u) n → n ≢ y → IsLinked (R u) y → 1 < y → (R u y).key ≡ k → mark_of (R t) y ≡ false → LacksWithin R t u k
   lacks_past_other t u x n y k h was not_tail below above other linked save key unmarked =
-      go (ℕ_discrete (rank_of top (R u) n) (suc k)) (bool_cases (mark_of (R u) y)) (bool_cases (mark_of (R u) n))
+      go (ℕ_discrete (rank_of top (R u) n) (suc k)) (cases_Bool (mark_of (R u) y)) (cases_Bool (mark_of (R u) n))
     where
       n_linked : IsLinked (R u) n
       n_linked =

@@ -7,7 +7,7 @@ use Rattle.model.specs.declared.Row.{Row}
 use Rattle.model.specs.declared.Succ.{Succ}
 use Rattle.model.specs.declared.Standing.{Standing}
 use Rattle.model.specs.declared.Standing.TheVariants.{Free, Held, Linked}
-use Rattle.kept.specs.Conditions.{both, both_hold}
+use Rattle.std.proofs.lemmas.Bool.{and_parts, and_from}
 
 -- Right row, backlink and holder are bytes, as the types of the code say of every row that it holds.
 pub record Bytes (r : Row) : Type 0 where
@@ -82,7 +82,7 @@ rest_again r b =
 pub bytes_packs : (r : Row) → Bytes r → packs_row (succ_word r.succ) (rest_word r) ≡ true
 unfolding packs_row
 bytes_packs r b =
-    both_hold _ _ (eq-eqb _ _ (ap succ_word (succ_back r.succ b.right))) (eq-eqb _ _ (rest_again r b))
+    and_from _ _ (eq-eqb _ _ (ap succ_word (succ_back r.succ b.right))) (eq-eqb _ _ (rest_again r b))
 
 pub record Packs (k e s r : ℕ) : Type 0 where
   pub succ : succ_word (row_from k e s r).succ ≡ s
@@ -91,5 +91,5 @@ pub record Packs (k e s r : ℕ) : Type 0 where
 pub packs_told : (k e s r : ℕ) → packs_row s r ≡ true → Packs k e s r
 unfolding packs_row row_from rest_word
 packs_told k e s r h =
-    let parts = both (eqb (succ_word (succ_from s)) s) _ h in
+    let parts = and_parts (eqb (succ_word (succ_from s)) s) _ h in
     record { succ = eqb-true _ _ parts.0; rest = eqb-true _ _ parts.1 }

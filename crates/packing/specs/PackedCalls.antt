@@ -22,7 +22,8 @@ use Rattle.model.specs.declared.Call.TheVariants.{Submit, Step}
 use Rattle.std.specs.Prelude.{Ok, Err}
 use Rattle.model.specs.declared.Refusal.{Refusal}
 use Rattle.model.specs.declared.Refusal.TheVariants.{NoSuchWorker, NotWellFormed}
-use Rattle.kept.specs.Conditions.{bool_cases, contradiction}
+use Rattle.kept.specs.Conditions.{contradiction}
+use Rattle.std.proofs.lemmas.Bool.{cases_Bool}
 use Rattle.kept.specs.Sized.{Sized, empty_sized}
 use Rattle.kept.specs.Ways.{submit_ways}
 use Rattle.kept.specs.WellFormedKept.{call_keeps, run_keeps}
@@ -66,7 +67,7 @@ one_refusal made false = refl
 
 module _ (words : List ℕ) (nothing : (rows : List Row) → PackingOf words rows → ⊥) (workers : List Worker) where
   packs_none : packs_rows words ≡ false
-  packs_none = elim (bool_cases (packs_rows words)) [
+  packs_none = elim (cases_Bool (packs_rows words)) [
     | inl h ↦ absurd (nothing (unpacked words) (told_packing words h))
     | inr h ↦ h
   ]
@@ -88,7 +89,7 @@ ill_call c (Step w) ill = rw ill (one_refusal (λ r. refuse r c) (ltb 7 w))
 
 module _ (words : List ℕ) (workers : List Worker) where
   pub ill_refused : packed_well words workers ≡ false → (x : Call) → packed_call words workers x ≡ refused_on (one_or_four x) words workers
-  ill_refused ill x = elim (bool_cases (packs_rows words)) [
+  ill_refused ill x = elim (cases_Bool (packs_rows words)) [
     | inl h ↦
         let c = state_of words workers in
         let p = told_packing words h in
@@ -101,7 +102,7 @@ module _ (words : List ℕ) (workers : List Worker) where
 
   pub refused_leaves_words : (x : Call) (r : Refusal) → (packed_call words workers x).called.verdict ≡ Err r
       → packed_call words workers x ≡ refused_on r words workers
-  refused_leaves_words x r h = elim (bool_cases (packs_rows words)) [
+  refused_leaves_words x r h = elim (cases_Bool (packs_rows words)) [
     | inl packs ↦
         let c = state_of words workers in
         let p = told_packing words packs in
@@ -118,7 +119,7 @@ module _ (words : List ℕ) (workers : List Worker) where
   -- a submit writes no row, whether it is refused or not
   pub submit_leaves_words : (w code key element : ℕ) → (packed_call words workers (Submit w code key element)).words ≡ words
   unfolding call
-  submit_leaves_words w code key element = elim (bool_cases (packs_rows words)) [
+  submit_leaves_words w code key element = elim (cases_Bool (packs_rows words)) [
     | inl packs ↦
         let c = state_of words workers in
         let p = told_packing words packs in

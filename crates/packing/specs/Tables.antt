@@ -5,7 +5,8 @@ use Rattle.std.proofs.Common.{sym, ◌∙◌, arith, eqb-true, eq-eqb}
 use Rattle.std.proofs.Math.ListN.{length}
 use Rattle.model.specs.Packed.{packed, row_from, unpacked, packs_row, packs_each, packs_rows}
 use Rattle.model.specs.declared.Row.{Row}
-use Rattle.kept.specs.Conditions.{clash, both, both_hold}
+use Rattle.kept.specs.Conditions.{clash}
+use Rattle.std.proofs.lemmas.Bool.{and_parts, and_from}
 use Rattle.packing.specs.OneRow.{Bytes, row_back, row_bytes, bytes_packs, packs_told}
 
 pub data AllBytes : List Row → Type 0 where
@@ -42,7 +43,7 @@ unpacked_bytes (a ∷ b ∷ c ∷ d ∷ words) = AllBytes.more (row_bytes a b c 
 packed_each : {rows : List Row} → AllBytes rows → packs_each (packed rows) ≡ true
 unfolding packs_each packed
 packed_each none = refl
-packed_each (more {r} b bs) = both_hold _ _ (bytes_packs r b) (packed_each bs)
+packed_each (more {r} b bs) = and_from _ _ (bytes_packs r b) (packed_each bs)
 
 each_packed : (n : ℕ) (words : List ℕ) → length words ≡ n * 4 → packs_each words ≡ true → packed (unpacked words) ≡ words
 unfolding packs_each packed unpacked row_from
@@ -52,7 +53,7 @@ each_packed n (a ∷ b ∷ []) size h = absurd (omega arith)
 each_packed n (a ∷ b ∷ c ∷ []) size h = absurd (omega arith)
 each_packed zero (a ∷ b ∷ c ∷ d ∷ words) size h = absurd (omega arith)
 each_packed (suc n) (a ∷ b ∷ c ∷ d ∷ words) size h =
-    let parts = both (packs_row c d) _ h in
+    let parts = and_parts (packs_row c d) _ h in
     let one = packs_told a b c d parts.0 in
     let later = each_packed n words (omega arith) parts.1 in
     cc (one.succ, one.rest, later)

@@ -15,7 +15,8 @@ use Rattle.model.specs.declared.Standing.{Standing}
 use Rattle.model.specs.declared.Standing.TheVariants.{Free, Held, Linked}
 use Rattle.model.specs.declared.Worker.{Worker}
 use Rattle.model.specs.declared.Catalogue.{Catalogue}
-use Rattle.kept.specs.Conditions.{clash, bool_cases, both, every}
+use Rattle.kept.specs.Conditions.{clash, every}
+use Rattle.std.proofs.lemmas.Bool.{cases_Bool, and_parts}
 use Rattle.kept.specs.WellFormedFacts.{RowWell, row_facts}
 use Rattle.packing.specs.OneRow.{Bytes}
 use Rattle.packing.specs.Tables.{AllBytes, PackingOf, packs_rows_lem, rows_number, packing_told, packing_once}
@@ -45,13 +46,13 @@ bytes_from : (workers : List Worker) (i : ℕ) (rows : List Row) → all_from (r
 unfolding all_from
 bytes_from workers i [] h = AllBytes.none
 bytes_from workers i (r ∷ rows) h =
-    let parts = both (row_well workers i r) _ h in
+    let parts = and_parts (row_well workers i r) _ h in
     AllBytes.more (row_of_bytes (row_facts workers i r parts.0)) (bytes_from workers (suc i) rows parts.1)
 
 module _ (c : Catalogue) (well : well_formed c ≡ true) where
   pub well_formed_bytes : AllBytes c.rows
   unfolding well_formed
-  well_formed_bytes = bytes_from c.workers 0 c.rows (both (all_from (row_well c.workers) 0 c.rows) _ well).0
+  well_formed_bytes = bytes_from c.workers 0 c.rows (and_parts (all_from (row_well c.workers) 0 c.rows) _ well).0
 
   -- the state of 128 rows is packed without loss
   pub well_formed_packs : length c.rows ≡ 128 → PackingOf (packed c.rows) c.rows
@@ -115,7 +116,7 @@ module _ (words : List ℕ) (workers : List Worker) (i : ℕ) (inside : i < 128)
       let packs = packs_rows_lem words told.0 in
       let rows = unpacked words in
       let there : i < length rows = omega (arith, rows_number 128 words packs.size) in
-      let one = every (row_well workers) rows free_row (both (all_from (row_well workers) 0 rows) _ told.1).0 i there in
+      let one = every (row_well workers) rows free_row (and_parts (all_from (row_well workers) 0 rows) _ told.1).0 i there in
       let well = row_facts workers i (row_at rows i) one in
       let found = packed_at rows i there in
       let succ : succ_word (row_at rows i).succ ≡ succ_word_at words i = sym found.succ ∙ ap (λ (l : List ℕ). succ_word_at l i) packs.again in
@@ -125,7 +126,7 @@ module _ (words : List ℕ) (workers : List Worker) (i : ℕ) (inside : i < 128)
       record { row = rw succ at s.0; apart = rw succ at s.1; backlink = rw rest at r.0; standing = rw rest at r.1 }
 
   not_well : (GoodWords → ⊥) → packed_well words workers ≡ false
-  not_well bad = elim (bool_cases (packed_well words workers)) [
+  not_well bad = elim (cases_Bool (packed_well words workers)) [
     | inl h ↦ absurd (bad (good_words h))
     | inr h ↦ h
   ]
