@@ -1,3 +1,1 @@
-pub mod Holder
-pub mod Loops
 pub mod OneOutcome

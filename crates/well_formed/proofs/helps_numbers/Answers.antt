@@ -1,16 +1,11 @@
--- Each help that passes brings the test one help further; one that fails stops it.
-use Rattle.std.proofs.Common.{arith, ◌∙◌, sym}
+use Rattle.std.proofs.Common.{◌∙◌, rules, tests}
+use Rattle.std.proofs.lemmas.Iterator.{YieldsList-from_slice}
+use Rattle.std.proofs.lemmas.Iterator.Consumers.{YieldsList-from_copied}
+use Rattle.std.proofs.lemmas.Iterator.Search.{all_from_yields_List}
 use Rattle.model.specs.WellFormed.{pending_numbers}
-use Rattle.well_formed.specs.Loops.{all_more, all_stop, all_done}
+use Rattle.well_formed.proofs.Tests.{all_alike}
 use Rattle.well_formed.proofs.helps_numbers.Goals as goal
 
-pub loop-i-preserved : goal.loop-i-preserved
-loop-i-preserved c =
-    (c.loop-i.invariant.0, omega arith, c.loop-i.invariant.2 ∙ all_more pending_numbers c.args.helps c.loop-i.i _ (omega arith) (sym c.pending_numbers.ensures ∙ c.if-pending_numbers.true))
-
-pub returns-else-pending_numbers : goal.returns-else-pending_numbers
-returns-else-pending_numbers c =
-    sym (c.loop-i.invariant.2 ∙ all_stop pending_numbers c.args.helps c.loop-i.i _ (omega arith) (sym c.pending_numbers.ensures ∙ c.if-pending_numbers.false))
-
 pub returns : goal.returns
-returns c = sym (c.loop-i.invariant.2 ∙ all_done pending_numbers c.args.helps c.loop-i.i (omega arith))
+returns c =
+    all_from_yields_List (pending_numbers 0) _ _ _ c.all.ensures.ran (YieldsList-from_copied (YieldsList-from_slice c.args.helps cc)) (λ x b q k. search (rules, tests)) ∙ all_alike (pending_numbers 0) 0 c.args.helps
