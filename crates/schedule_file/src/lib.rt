@@ -3,112 +3,87 @@
 
 #![tactic(auto)]
 
-ghost use Rattle.std.specs.Prelude.{◌+◌, ◌<◌, ◌≡◌};
-ghost use Rattle.model.specs.Schedule.{byte_at, two_bytes, four_bytes, record_fits, file_verdict, record_call};
-ghost use Rattle.schedule_file.specs.Records.{fits_from};
+ghost use Rattle.std.specs.Prelude.{◌+◌, ◌<◌, ◌≡◌, length};
+ghost use Rattle.model.specs.Schedule.{byte_at, four_bytes, records_fit, file_verdict, record_call};
 
 use model::{Call, Refusal, Verdict};
 
-// ---- Bytes ----
-
-// The byte at i, 0 past the end.
-fn byte_at(bytes: &[u8], i: usize) -> u32
-    ensures { (result ≡ byte_at bytes.now i) × (result < 256) }
-{
-    if i < bytes.len() {
-        return bytes[i] as u32;
-    }
-    0
-}
-
-// Two bytes and four, big-endian.
-#[tactic(auto, unfolding(model::specs::Schedule::two_bytes))]
-fn two_bytes(bytes: &[u8], i: usize) -> u32
-    requires { i < 16 }
-    ensures { (result ≡ two_bytes bytes.now i) × (result < 65536) }
-{
-    byte_at(bytes, i) * 256 + byte_at(bytes, i + 1)
-}
-
-#[tactic(auto, unfolding(model::specs::Schedule::four_bytes))]
-fn four_bytes(bytes: &[u8], i: usize) -> u32
-    requires { i < 8 }
-    ensures { result ≡ four_bytes bytes.now i }
-{
-    two_bytes(bytes, i) * 65536 + two_bytes(bytes, i + 2)
-}
-
 // ---- Whether the file is refused ----
 
-#[tactic(auto, unfolding(model::specs::Schedule::record_fits))]
-fn record_fits(n: u8, rest: &[u8]) -> bool
-    ensures { result ≡ record_fits n rest.now }
+// A record is 1 byte or 10 behind its length byte.
+#[tactic(auto, using(crate::specs::Records::one_record), unfolding(model::specs::Schedule::record_fits))]
+fn records_fit(body: &[u8]) -> bool
+    ensures { result ≡ records_fit (length body.now) body.now }
 {
-    if n == 1 {
-        return 1 <= rest.len();
-    }
-    if n == 10 {
-        return 10 <= rest.len();
-    }
-    false
-}
-
-fn records_fit(file: &[u8]) -> bool
-    ensures { result ≡ fits_from file.now 3 }
-{
-    let mut at = 3;
-    while at < file.len() {
-        let start = at + 1;
-        let n = file[at];
-        if record_fits(n, &file[start..]) {
-            at = start + n as usize;
-        } else {
-            return false;
+    let mut records = body;
+    while let Some((&n, rest)) = records.split_first() {
+        match (n, rest.get(usize::from(n)..)) {
+            (1 | 10, Some(left)) => records = left,
+            _ => return false,
         }
     }
     true
 }
 
 // The whole file is checked before its first event. Refusals 8 (short), 7, 10, 8 (length), 9.
-#[tactic(auto, unfolding(model::specs::Schedule::file_verdict, crate::specs::Records::fits_from))]
+#[tactic(auto, unfolding(model::specs::Schedule::file_verdict, model::specs::Schedule::two_bytes))]
 pub fn check(file: &[u8]) -> Verdict
     ensures { result ≡ file_verdict file.now }
 {
-    if file.len() < 3 {
+    let &[version, high, low, ref body @ ..] = file else {
         return Err(Refusal::FileLength);
-    }
-    let version = file[0];
-    let stated = two_bytes(file, 1) as usize;
-    let left = file.len() - 3;
+    };
+    let stated = u16::from_be_bytes([high, low]);
     if version != 1 {
         return Err(Refusal::FileVersion);
     }
-    if 60000 < stated {
+    if 60_000 < stated {
         return Err(Refusal::FileTooLong);
     }
-    if stated != left {
+    if usize::from(stated) != body.len() {
         return Err(Refusal::FileLength);
     }
-    if records_fit(file) {
-        return Ok(());
+    if !records_fit(body) {
+        return Err(Refusal::FileRecord);
     }
-    Err(Refusal::FileRecord)
+    Ok(())
 }
 
 // ---- The call of a record ----
+
+// The byte at i, 0 past the end.
+fn byte_at(bytes: &[u8], i: usize) -> u8
+    ensures { result ≡ byte_at bytes.now i }
+{
+    bytes.get(i).copied().unwrap_or(0)
+}
+
+// Four bytes, big-endian.
+#[tactic(auto, unfolding(model::specs::Schedule::four_bytes, model::specs::Schedule::two_bytes))]
+fn four_bytes(bytes: &[u8], i: usize) -> u32
+    requires { i < 8 }
+    ensures { result ≡ four_bytes bytes.now i }
+{
+    u32::from_be_bytes([
+        byte_at(bytes, i),
+        byte_at(bytes, i + 1),
+        byte_at(bytes, i + 2),
+        byte_at(bytes, i + 3),
+    ])
+}
 
 #[tactic(auto, unfolding(model::specs::Schedule::record_call))]
 pub fn record_call(n: u8, rest: &[u8]) -> Call
     ensures { result ≡ record_call n rest.now }
 {
-    let worker = byte_at(rest, 0);
-    if n == 1 {
-        return Call::Step { worker };
-    }
-    Call::Submit {
-        worker: worker,
-        code: byte_at(rest, 1),
-        key: four_bytes(rest, 2),
-        element: four_bytes(rest, 6),
+    let worker = u32::from(byte_at(rest, 0));
+    match n {
+        1 => Call::Step { worker },
+        _ => Call::Submit {
+            worker,
+            code: u32::from(byte_at(rest, 1)),
+            key: four_bytes(rest, 2),
+            element: four_bytes(rest, 6),
+        },
     }
 }
