@@ -1,3 +1,4 @@
 pub mod Comparisons
 pub mod Slots
 pub mod LowestFree
+pub mod Requests

@@ -18,6 +18,6 @@ pub use effects::{call_help_flagged, call_search_from, call_try_flag, finish, go
 pub use free_rows::lowest_free;
 pub use help_marked::{help_marked_1, help_marked_2};
 pub use order::{has_key, key_at_most, key_below};
-pub use requests::{first_line, is_request};
+pub use requests::{Request, first_line};
 pub use swap::{cas, flagged_only, same_succ, succ_of, with_succ};
 pub use workers::{help_at, is_idle, ninth_help, with_help};

@@ -1,28 +1,44 @@
-// The request codes, and the private work before a request's first access.
+// What may be asked for, by its code, and the private work before a request's first access.
 
 ghost use Rattle.std.specs.Prelude.{◌≡◌};
-ghost use Rattle.model.specs.Step.{is_request, first_line};
+ghost use Rattle.model.specs.Step.{first_line};
+ghost use Rattle.accesses.specs.Requests.{code_of, Asks};
 
 use crate::effects::call_search_from;
 use crate::order::HEAD;
-use model::{Line, SearchCaller, SearchFrame};
+use model::{Line, Refusal, SearchCaller, SearchFrame};
 
-// 1 search, 2 insert, 3 delete.
-pub fn is_request(code: u32) -> bool
-    ensures { result ≡ is_request code }
-{
-    matches!(code, 1..=3)
+#[derive(Clone, Copy, Debug, PartialEq, Eq)]
+pub enum Request {
+    Search = 1,
+    Insert = 2,
+    Delete = 3,
 }
 
-// The private work before a request's first access.
+impl TryFrom<u32> for Request {
+    type Error = Refusal;
+
+    ghost try_from_gives = { Asks };
+
+    fn try_from(code: u32) -> Result<Request, Refusal> {
+        match code {
+            1 => Ok(Request::Search),
+            2 => Ok(Request::Insert),
+            3 => Ok(Request::Delete),
+            _ => Err(Refusal::NoSuchRequest),
+        }
+    }
+}
+
+// The private work before the first access. The element of another request than an insert is stored as 0.
 #[tactic(auto, unfolding(model::specs::Step::first_line))]
-pub fn first_line(code: u32, key: u32, element: u32) -> Line
-    ensures { result ≡ first_line code key element }
+pub fn first_line(request: Request, key: u32, element: u32) -> Line
+    ensures { result ≡ first_line (code_of request) key element }
 {
-    let (element, caller) = match code {
-        1 => (0, SearchCaller::Search1),
-        2 => (element, SearchCaller::Insert1),
-        _ => (0, SearchCaller::Delete1),
+    let (element, caller) = match request {
+        Request::Search => (0, SearchCaller::Search1),
+        Request::Insert => (element, SearchCaller::Insert1),
+        Request::Delete => (0, SearchCaller::Delete1),
     };
     call_search_from(SearchFrame {
         key,

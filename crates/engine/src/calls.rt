@@ -5,7 +5,7 @@ ghost use Rattle.model.specs.Step.{step_worker, step, submit};
 ghost use Rattle.model.specs.Run.{call};
 
 use crate::steps;
-use accesses::{first_line, is_idle, is_request};
+use accesses::{Request, first_line, is_idle};
 use model::{Call, Catalogue, Refusal, Stepped, Verdict, fresh_worker};
 use well_formed::well_formed;
 
@@ -49,13 +49,11 @@ fn begin(
     if !well_formed(*state) {
         return Err(Refusal::NotWellFormed);
     }
-    if !is_request(code) {
-        return Err(Refusal::NoSuchRequest);
-    }
+    let request = Request::try_from(code)?;
     if !is_idle(state.workers[worker as usize].line) {
         return Err(Refusal::WorkerBusy);
     }
-    state.workers[worker as usize] = fresh_worker(first_line(code, key, element));
+    state.workers[worker as usize] = fresh_worker(first_line(request, key, element));
     Ok(())
 }
 
