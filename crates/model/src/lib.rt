@@ -36,7 +36,7 @@ pub struct Row {
 
 // ---- Answers and refusals ----
 
-// What a finished request was answered. `NoAnswer` is the answer 0 of a worker that has never finished one.
+// What a finished request was answered. `NoAnswer` is the answer 0 of a worker that has never finished one, a number like the others.
 #[derive(Clone, Copy, Debug, PartialEq, Eq)]
 pub enum Answer {
     NoAnswer,
@@ -222,7 +222,8 @@ pub struct Pending {
     pub del: u8,
 }
 
-// The first `count` of `helps` are the pending helps, the last of them the first to run again.
+// The first `count` of `helps` are the pending helps, the last of them the first to run again. No list with a length of its own: a record
+// made by hand may have nine, or anything in the slots behind, and is then refused (`broken_refused`, `hand_made`).
 #[derive(Clone, Copy, Debug, PartialEq, Eq)]
 pub struct Worker {
     pub line: Line,
@@ -277,21 +278,21 @@ pub enum Call {
     },
 }
 
-// After a submit or a step.
+// After a submit or a step. No `Result`: the state comes back on a refusal too, as it was (`refused_changes_nothing`).
 #[derive(Clone, Copy, Debug, PartialEq, Eq)]
 pub struct Stepped {
     pub verdict: Verdict,
     pub state: Catalogue,
 }
 
-// After a submit or a step on packed rows: the rows are in the words that were lent.
+// After a submit or a step on packed rows: the rows are in the words that were lent. The workers come back on a refusal too.
 #[derive(Clone, Copy, Debug, PartialEq, Eq)]
 pub struct Called {
     pub verdict: Verdict,
     pub workers: [Worker; Catalogue::WORKERS],
 }
 
-// After a turn: the steps taken, and the lent worker record as the loop finds it.
+// After a turn: the steps taken, and the lent worker record as the loop finds it, on a refusal too (`turn_untaken`).
 #[derive(Clone, Copy, Debug, PartialEq, Eq)]
 pub struct Turned {
     pub verdict: Verdict,
@@ -322,16 +323,15 @@ pub fn free_row() -> Row
 fn end_row(right: u8) -> Row
     ensures { result ≡ end_row right }
 {
+    let succ = Succ {
+        right,
+        mark: false,
+        flag: false,
+    };
     Row {
-        key: 0,
-        element: 0,
-        backlink: 0,
-        succ: Succ {
-            right,
-            mark: false,
-            flag: false,
-        },
+        succ,
         standing: Standing::Linked,
+        ..free_row()
     }
 }
 
