@@ -7,42 +7,47 @@
 mod counts;
 mod inserts;
 mod refused;
-mod same;
 mod show;
 mod states;
 mod turns;
 
 use model::Catalogue;
-use states::{added, after, asked, record_of};
+use states::{DELETE, INSERT, LARGEST_BUDGET, added, after, asked};
 use std::io;
+use turns::Turn;
+
+// The workers of document 01.
+const A: u32 = 0;
+
+const B: u32 = 1;
 
 // P7. A deletes 10 for 6 steps; B inserts 20; A goes on. The state at the end.
 fn show_p7(rt: &impl Print, two_keys: Catalogue) -> io::Result<Catalogue> {
-    let a = asked(two_keys, 0, 3, 10, 0);
-    turns::show_turns(rt, "P7, A deletes 10", a, 0)?;
-    turns::show_turn(rt, "P7, A deletes 10", a, 0, 6, record_of(a, 0))?;
-    let b = asked(after(a, 0, 6), 1, 2, 20, 200);
-    turns::show_turns(rt, "P7, B inserts 20", b, 1)?;
-    let c = after(b, 1, 8192);
-    turns::show_turns(rt, "P7, A goes on", c, 0)?;
-    Ok(after(c, 0, 8192))
+    let deleting = asked(two_keys, A, DELETE, 10, 0);
+    Turn::own(deleting, A).show_each(rt, "P7, A deletes 10")?;
+    Turn::own(deleting, A).show(rt, "P7, A deletes 10", 6)?;
+    let inserting = asked(after(deleting, A, 6), B, INSERT, 20, 200);
+    Turn::own(inserting, B).show_each(rt, "P7, B inserts 20")?;
+    let inserted = after(inserting, B, LARGEST_BUDGET);
+    Turn::own(inserted, A).show_each(rt, "P7, A goes on")?;
+    Ok(after(inserted, A, LARGEST_BUDGET))
 }
 
 // P8. B inserts 20 for 5 steps; A deletes 10 for 7; B goes on; A goes on. The state at the end.
 fn show_p8(rt: &impl Print, two_keys: Catalogue) -> io::Result<Catalogue> {
-    let d = asked(two_keys, 1, 2, 20, 200);
-    turns::show_turns(rt, "P8, B inserts 20", d, 1)?;
-    turns::show_turn(rt, "P8, B inserts 20", d, 1, 5, record_of(d, 1))?;
-    let e = asked(after(d, 1, 5), 0, 3, 10, 0);
-    turns::show_turns(rt, "P8, A deletes 10", e, 0)?;
-    let f = after(e, 0, 7);
-    turns::show_turns(rt, "P8, B goes on", f, 1)?;
-    let g = after(f, 1, 8192);
-    turns::show_turns(rt, "P8, A goes on", g, 0)?;
-    Ok(after(g, 0, 8192))
+    let inserting = asked(two_keys, B, INSERT, 20, 200);
+    Turn::own(inserting, B).show_each(rt, "P8, B inserts 20")?;
+    Turn::own(inserting, B).show(rt, "P8, B inserts 20", 5)?;
+    let deleting = asked(after(inserting, B, 5), A, DELETE, 10, 0);
+    Turn::own(deleting, A).show_each(rt, "P8, A deletes 10")?;
+    let half_deleted = after(deleting, A, 7);
+    Turn::own(half_deleted, B).show_each(rt, "P8, B goes on")?;
+    let inserted = after(half_deleted, B, LARGEST_BUDGET);
+    Turn::own(inserted, A).show_each(rt, "P8, A goes on")?;
+    Ok(after(inserted, A, LARGEST_BUDGET))
 }
 
-// A is worker 0, B worker 1, as in document 01; worker 7 adds the keys that are held at the start.
+// Worker 7 adds the keys that are held at the start.
 fn main(rt: HostRuntime) -> io::Result<()> {
     let two_keys = added(added(Catalogue::empty(), 10, 100), 30, 300);
     let p7 = show_p7(&rt, two_keys)?;

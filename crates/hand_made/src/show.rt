@@ -1,52 +1,38 @@
-// What the program prints.
+// What the program prints of a verdict and of a worker's line, and what it remarks.
 
-use model::{Answer, Line, Refusal, Verdict};
-use std::io;
+use model::{Answer, Line, Verdict};
+use std::{fmt, io};
 
-pub fn field(rt: &impl Print, name: &str, value: u32) -> io::Result<()> {
-    print!(rt; "{name}{value}")
-}
+#[derive(Clone, Copy)]
+pub struct Shown<T>(pub T);
 
 // `accepted`, or `r` and the refusal's number.
-pub fn verdict(rt: &impl Print, v: Verdict) -> io::Result<()> {
-    match v {
-        Ok(()) => rt.print("accepted"),
-        Err(r) => {
-            let n = match r {
-                Refusal::NoSuchWorker => 1,
-                Refusal::WorkerBusy => 2,
-                Refusal::WorkerIdle => 3,
-                Refusal::NotWellFormed => 4,
-                Refusal::NinthHelp => 5,
-                Refusal::NoSuchRequest => 6,
-                Refusal::FileVersion => 7,
-                Refusal::FileLength => 8,
-                Refusal::FileRecord => 9,
-                Refusal::FileTooLong => 10,
-                Refusal::BudgetTooLarge => 11,
-            };
-            field(rt, "r", n)
+impl fmt::Display for Shown<Verdict> {
+    fn fmt<W: fmt::Write>(&self, f: &mut fmt::Formatter<W>) -> fmt::Result {
+        match self.0 {
+            Ok(()) => write!(f, "accepted"),
+            Err(refusal) => write!(f, "r{}", u32::from(refusal)),
         }
     }
 }
 
-fn answer(rt: &impl Print, a: Answer) -> io::Result<()> {
-    match a {
-        Answer::NoAnswer => rt.print(", no answer"),
-        Answer::Found(e) => field(rt, ", Found ", e),
-        Answer::Absent => rt.print(", Absent"),
-        Answer::Added => rt.print(", Added"),
-        Answer::Duplicate => rt.print(", Duplicate"),
-        Answer::Removed(e) => field(rt, ", Removed ", e),
-        Answer::Full => rt.print(", Full"),
+// The last answer of an idle worker, or that it is busy.
+impl fmt::Display for Shown<Line> {
+    fn fmt<W: fmt::Write>(&self, f: &mut fmt::Formatter<W>) -> fmt::Result {
+        match self.0 {
+            Line::Idle(Answer::NoAnswer) => write!(f, "no answer"),
+            Line::Idle(Answer::Found(element)) => write!(f, "Found {element}"),
+            Line::Idle(Answer::Removed(element)) => write!(f, "Removed {element}"),
+            Line::Idle(answer) => write!(f, "{answer:?}"),
+            _ => write!(f, "busy"),
+        }
     }
 }
 
-// The last answer of an idle worker, or that it is busy.
-pub fn line(rt: &impl Print, l: Line) -> io::Result<()> {
-    if let Line::Idle(a) = l {
-        answer(rt, a)
-    } else {
-        rt.print(", busy")
+// A remark is printed where it holds.
+pub fn remark(rt: &impl Print, holds: bool, text: &str) -> io::Result<()> {
+    if holds {
+        print!(rt; ", {text}")?;
     }
+    Ok(())
 }

@@ -1,71 +1,73 @@
 // The states and records that are shown: from the empty catalogue by calls, or by hand.
 
 use model::{
-    Catalogue, HelpCaller, HelpFrame, HelpLine, InsertFrame, InsertLine, Line, Pending, Row,
-    Standing, Succ, Worker,
+    Catalogue, HelpCaller, HelpFrame, HelpLine, InsertFrame, InsertLine, Line, Row, Standing, Succ,
+    Worker, free_row, fresh_worker,
 };
+use tables::Table;
 
-pub fn record_of(state: Catalogue, worker: u32) -> Worker {
-    let workers = state.workers;
-    if worker < 8 {
-        return workers[worker as usize];
-    }
-    workers[0]
+// The request codes.
+pub const SEARCH: u32 = 1;
+
+pub const INSERT: u32 = 2;
+
+pub const DELETE: u32 = 3;
+
+// No turn takes more steps.
+pub const LARGEST_BUDGET: u32 = 8192;
+
+pub fn record_of(state: &Catalogue, worker: u32) -> Worker {
+    let own = state.workers.get(worker as usize);
+    *own.unwrap_or(&state.workers[0])
 }
 
 pub fn with_worker(state: Catalogue, worker: u32, record: Worker) -> Catalogue {
     let mut with = state;
-    if worker < 8 {
-        with.workers[worker as usize] = record;
+    if let Some(own) = with.workers.get_mut(worker as usize) {
+        *own = record;
     }
     with
 }
 
-pub fn with_row(state: Catalogue, i: usize, row: Row) -> Catalogue {
+pub fn with_row(state: Catalogue, i: u8, row: Row) -> Catalogue {
     let mut with = state;
-    if i < Catalogue::ROWS {
-        with.rows[i] = row;
-    }
+    with.rows.store(i, row);
     with
 }
 
 pub fn asked(state: Catalogue, worker: u32, code: u32, key: u32, element: u32) -> Catalogue {
-    let stepped = engine::submit(state, worker, code, key, element);
-    stepped.state
+    engine::submit(state, worker, code, key, element).state
 }
 
 // After a turn of the worker's own record.
 pub fn after(state: Catalogue, worker: u32, budget: u32) -> Catalogue {
-    let turned = lent::turn_of(state, worker, budget, record_of(state, worker));
-    turned.state
+    lent::turn_of(state, worker, budget, record_of(&state, worker)).state
 }
 
 // Worker 7 inserts, to its finish.
 pub fn added(state: Catalogue, key: u32, element: u32) -> Catalogue {
-    after(asked(state, 7, 2, key, element), 7, 8192)
+    after(asked(state, 7, INSERT, key, element), 7, LARGEST_BUDGET)
 }
 
-pub fn row(key: u32, backlink: u8, right: u8, flag: bool, standing: Standing) -> Row {
+// A linked row, with neither mark nor flag.
+pub fn linked(key: u32, right: u8) -> Row {
     Row {
-        key: key,
-        element: 0,
-        backlink: backlink,
+        key,
         succ: Succ {
-            right: right,
+            right,
             mark: false,
-            flag: flag,
+            flag: false,
         },
-        standing: standing,
+        standing: Standing::Linked,
+        ..free_row()
     }
 }
 
 // A record at a line, with `count` pending helps (0, 0).
 pub fn at_line(line: Line, count: u8) -> Worker {
-    let none = Pending { prev: 0, del: 0 };
     Worker {
-        line: line,
-        helps: [none; Catalogue::HELPS],
-        count: count,
+        count,
+        ..fresh_worker(line)
     }
 }
 
@@ -74,9 +76,9 @@ pub fn inserting(line: InsertLine, prev: u8) -> Worker {
     let frame = InsertFrame {
         key: 5,
         element: 50,
-        prev: prev,
+        prev,
     };
-    at_line(Line::Insert(line, frame), 0)
+    fresh_worker(Line::Insert(line, frame))
 }
 
 // A delete of row 2, which helps at this line.
@@ -96,9 +98,10 @@ pub fn helping(line: HelpLine) -> Line {
 
 // Row 2 follows the head and is flagged for row 3.
 pub fn flagged() -> Catalogue {
-    let head = row(0, 0, 2, false, Standing::Linked);
-    let second = row(10, 0, 3, true, Standing::Linked);
-    let third = row(20, 0, 1, false, Standing::Linked);
-    let one = with_row(Catalogue::empty(), 0, head);
-    with_row(with_row(one, 2, second), 3, third)
+    let mut state = Catalogue::empty();
+    state.rows[0] = linked(0, 2);
+    state.rows[2] = linked(10, 3);
+    state.rows[2].succ.flag = true;
+    state.rows[3] = linked(20, 1);
+    state
 }

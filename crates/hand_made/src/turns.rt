@@ -1,106 +1,121 @@
 // Turns on a lent worker record: what is returned, and what the record and the state are afterwards.
 
-use crate::states::{asked, at_line, flagged, helping, inserting, record_of, with_worker};
-use crate::{same, show};
-use model::{Answer, Catalogue, HelpLine, InsertLine, Line, Worker};
+use crate::show::{Shown, remark};
+use crate::states::{
+    INSERT, LARGEST_BUDGET, asked, at_line, flagged, helping, inserting, record_of, with_worker,
+};
+use model::{Answer, Catalogue, HelpLine, InsertLine, Line, Worker, idle_worker};
 use std::io;
 
-fn show_record(
-    rt: &impl Print,
-    left: Worker,
-    record: Worker,
-    end: Catalogue,
-    worker: u32,
-) -> io::Result<()> {
-    if same::worker(left, record) {
-        rt.print(", record as lent")?;
-    }
-    if worker < 8 && same::worker(left, record_of(end, worker)) {
-        rt.print(", record as in the state")?;
-    }
-    Ok(())
+// A turn that is to be taken. The record that it lends need not be the one that the state has.
+#[derive(Clone, Copy)]
+pub struct Turn {
+    pub state: Catalogue,
+    pub worker: u32,
+    pub record: Worker,
 }
 
-fn show_state(
-    rt: &impl Print,
-    end: Catalogue,
-    state: Catalogue,
-    worker: u32,
-    record: Worker,
-) -> io::Result<()> {
-    if worker < 8 && same::catalogue(end, with_worker(state, worker, record)) {
-        rt.print(", state with the lent record")?;
+impl Turn {
+    // Of the worker's own record.
+    pub fn own(state: Catalogue, worker: u32) -> Self {
+        Turn {
+            state,
+            worker,
+            record: record_of(&state, worker),
+        }
     }
-    if same::catalogue(end, state) {
-        rt.print(", state as given")?;
+
+    pub fn show(&self, rt: &impl Print, name: &str, budget: u32) -> io::Result<()> {
+        let Turn {
+            state,
+            worker,
+            record,
+        } = *self;
+        let turned = lent::turn_of(state, worker, budget, record);
+        let verdict = Shown(turned.verdict);
+        let steps = turned.steps;
+        let line = Shown(turned.lent.line);
+        print!(rt; "{name}, budget {budget}: {verdict}, steps {steps}, {line}")?;
+        let exists = worker < 8;
+        let as_in_state = exists && turned.lent == record_of(&turned.state, worker);
+        let with_lent = exists && turned.state == with_worker(state, worker, record);
+        remark(rt, turned.lent == record, "record as lent")?;
+        remark(rt, as_in_state, "record as in the state")?;
+        remark(rt, with_lent, "state with the lent record")?;
+        remark(rt, turned.state == state, "state as given")?;
+        rt.println("")
     }
-    Ok(())
-}
 
-// One turn of the lent record.
-pub fn show_turn(
-    rt: &impl Print,
-    name: &str,
-    state: Catalogue,
-    worker: u32,
-    budget: u32,
-    record: Worker,
-) -> io::Result<()> {
-    let turned = lent::turn_of(state, worker, budget, record);
-    let left = turned.lent;
-    let end = turned.state;
-    print!(rt; "{name}, budget {budget}: ")?;
-    show::verdict(rt, turned.verdict)?;
-    show::field(rt, ", steps ", turned.steps)?;
-    show::line(rt, left.line)?;
-    show_record(rt, left, record, end, worker)?;
-    show_state(rt, end, state, worker, record)?;
-    rt.println("")
-}
-
-// Turns of the worker's own record, each from this state.
-pub fn show_turns(rt: &impl Print, name: &str, state: Catalogue, worker: u32) -> io::Result<()> {
-    let record = record_of(state, worker);
-    show_turn(rt, name, state, worker, 0, record)?;
-    show_turn(rt, name, state, worker, 1, record)?;
-    show_turn(rt, name, state, worker, 7, record)?;
-    show_turn(rt, name, state, worker, 8192, record)?;
-    show_turn(rt, name, state, worker, 8193, record)
+    // With several budgets, each time from this state.
+    pub fn show_each(&self, rt: &impl Print, name: &str) -> io::Result<()> {
+        for budget in [0, 1, 7, LARGEST_BUDGET, 8193] {
+            self.show(rt, name, budget)?;
+        }
+        Ok(())
+    }
 }
 
 // The lent record is not the one that the state has: it stands for that one in the checks and in the state returned.
 pub fn show_other_records(rt: &impl Print) -> io::Result<()> {
     let empty = Catalogue::empty();
-    let busy_state = asked(empty, 0, 2, 5, 50);
-    let busy = record_of(busy_state, 0);
-    let idle = at_line(Line::Idle(Answer::NoAnswer), 0);
-    let idle_with_help = at_line(Line::Idle(Answer::NoAnswer), 1);
+    let busy_state = asked(empty, 0, INSERT, 5, 50);
     let names_free_row = inserting(InsertLine::Insert17 { new: 5 }, 0);
-    let broken = with_worker(empty, 0, names_free_row);
-    let lent_busy = "idle in the state, lent busy";
-    show_turn(rt, lent_busy, empty, 0, 0, busy)?;
-    show_turn(rt, lent_busy, empty, 0, 8192, busy)?;
-    show_turn(rt, lent_busy, empty, 0, 8193, busy)?;
-    show_turn(rt, "busy in the state, lent idle", busy_state, 0, 7, idle)?;
-    let lent_broken = "lent record names a free row";
-    show_turn(rt, lent_broken, empty, 0, 7, names_free_row)?;
-    show_turn(rt, lent_broken, empty, 0, 8193, names_free_row)?;
-    let state_broken = "the state's record names a free row, lent busy";
-    show_turn(rt, state_broken, broken, 0, 8192, busy)?;
-    let with_help = "lent idle with a pending help";
-    show_turn(rt, with_help, empty, 0, 7, idle_with_help)?;
-    let no_worker = "worker 8, lent busy";
-    show_turn(rt, no_worker, empty, 8, 7, busy)?;
-    show_turn(rt, no_worker, empty, 8, 8193, busy)
+    let lent_busy = Turn {
+        state: empty,
+        worker: 0,
+        record: record_of(&busy_state, 0),
+    };
+    let lent_idle = Turn {
+        state: busy_state,
+        worker: 0,
+        record: idle_worker(Answer::NoAnswer),
+    };
+    let lent_broken = Turn {
+        record: names_free_row,
+        ..lent_busy
+    };
+    let state_broken = Turn {
+        state: with_worker(empty, 0, names_free_row),
+        ..lent_busy
+    };
+    let with_help = Turn {
+        record: at_line(Line::Idle(Answer::NoAnswer), 1),
+        ..lent_busy
+    };
+    let no_worker = Turn {
+        worker: 8,
+        ..lent_busy
+    };
+    for budget in [0, LARGEST_BUDGET, 8193] {
+        lent_busy.show(rt, "idle in the state, lent busy", budget)?;
+    }
+    lent_idle.show(rt, "busy in the state, lent idle", 7)?;
+    for budget in [7, 8193] {
+        lent_broken.show(rt, "lent record names a free row", budget)?;
+    }
+    state_broken.show(
+        rt,
+        "the state's record names a free row, lent busy",
+        LARGEST_BUDGET,
+    )?;
+    with_help.show(rt, "lent idle with a pending help", 7)?;
+    for budget in [7, 8193] {
+        no_worker.show(rt, "worker 8, lent busy", budget)?;
+    }
+    Ok(())
 }
 
 // Row 2 is flagged for row 3; the lent record has eight pending helps.
 pub fn show_ninth_help(rt: &impl Print) -> io::Result<()> {
-    let state = flagged();
-    let marking = at_line(helping(HelpLine::TryMark3 { right: 3 }), 8);
-    let earlier = at_line(helping(HelpLine::TryMark2), 8);
-    let name = "lent with eight helps, before the push of a ninth";
-    show_turn(rt, name, state, 0, 7, marking)?;
-    let sooner = "lent with eight helps, one step earlier";
-    show_turn(rt, sooner, state, 0, 7, earlier)
+    let marking = Turn {
+        state: flagged(),
+        worker: 0,
+        record: at_line(helping(HelpLine::TryMark3 { right: 3 }), 8),
+    };
+    let earlier = Turn {
+        record: at_line(helping(HelpLine::TryMark2), 8),
+        ..marking
+    };
+    marking.show(rt, "lent with eight helps, before the push of a ninth", 7)?;
+    earlier.show(rt, "lent with eight helps, one step earlier", 7)
 }
