@@ -8,16 +8,22 @@ use Rattle.model.specs.declared.Worker.{Worker}
 use Rattle.model.specs.declared.Catalogue.{Catalogue}
 use Rattle.model.specs.declared.Called.{Called}
 use Rattle.model.specs.declared.Stepped.{Stepped}
+use Rattle.model.specs.declared.Call.{Call}
 use Rattle.model.specs.declared.Call.TheVariants.{Submit, Step}
 use Rattle.model.specs.Verdict.{Verdict}
 use Rattle.packed.specs.Tables.{Packing}
 use Rattle.packed.specs.Calls.{Gives}
 
 module _ (words : List ℕ) (workers : List Worker) where
+  pub call_once : (x : Call) (r q : Called) (found found' : List ℕ)
+      → Gives (packed_call words workers x) r found → Gives (packed_call words workers x) q found'
+      → (r ≡ q) × (found ≡ found')
+  call_once x r q found found' one other = (one.0 ∙ sym other.0, one.1 ∙ sym other.1)
+
   pub step_once : (w : ℕ) (r q : Called) (found found' : List ℕ)
       → Gives (packed_call words workers (Step w)) r found → Gives (packed_call words workers (Step w)) q found'
       → (r ≡ q) × (found ≡ found')
-  step_once w r q found found' one other = (one.0 ∙ sym other.0, one.1 ∙ sym other.1)
+  step_once w = call_once (Step w)
 
   pub submit_once : (w code key element : ℕ) (r q : Called)
       → r ≡ (packed_call words workers (Submit w code key element)).called

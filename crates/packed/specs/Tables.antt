@@ -1,74 +1,71 @@
--- What the loops over whole tables need to know: the words of one row more, and that all are there at the end.
-use Prim.Native.Nat.{ℕ, suc, ◌+◌, ◌*◌, ◌≤◌, ◌<◌}
-use Rattle.std.specs.Prelude.{◌≡◌, refl, Bool, true, false, get_or, set, take}
-use Rattle.std.proofs.Common.{ap, sym, ◌∙◌, add-one, drop_of_length-le, take-suc, take-suc-set, take_all, drop-cons, eq-eqb, ne_eqb}
-use mathlib.Core.List.{List, [], ◌∷◌, ◌++◌}
-use native.Mathlib.Omega.{arith}
-use Rattle.std.proofs.Math.ListN.{length, drop, length-append}
+-- What the code over whole tables needs to know: the test of all rows is that of each four words, the rows read one by one are all rows, and
+-- the words of one row more.
+use Rattle.std.specs.Prelude.{ℕ, zero, suc, ◌+◌, ◌*◌, ◌/◌, ◌≤◌, ◌<◌, ◌≡◌, refl, Bool, false, ◌&&◌, List, [], ◌∷◌, ◌++◌, length, get_or, take, drop, Ok, Err}
+use Rattle.std.specs.List.{list_all}
+use Rattle.std.specs.Simd.{first_chunks}
+use Rattle.std.specs.Array.{IsFromFnResult, IsFromFnResultFrom}
+use denote.Param.Members.{Mut, Called}
+use Rattle.std.proofs.Common.{inl, inr, ap, sym, ◌∙◌, arith, add-one, take-suc, take_all, length-append, eq-eqb, ne_eqb}
 use Rattle.std.proofs.Math.Seq.{length-take-le, take_at}
+use Rattle.std.proofs.lemmas.Bool.{cases_lt}
+use Rattle.std.proofs.lemmas.List.{ext_get_or}
 use Rattle.std.proofs.lemmas.List.Edits.{sets-eq}
-use Rattle.model.specs.State.{row_at, free_row, empty_catalogue}
-use Rattle.model.specs.Step.{refuse, accept}
-use Rattle.model.specs.WellFormed.{well_formed}
-use Rattle.model.specs.Packed.{succ_word, rest_word, packed, packs_row, packs_each, packs_rows, state_of, packed_well, pack_verdict, pack_into, unpack}
-use Rattle.model.specs.declared.Row.{Row}
-use Rattle.model.specs.declared.Worker.{Worker}
-use Rattle.model.specs.declared.Catalogue.{Catalogue}
+use Rattle.model.specs.State.{row_at, free_row}
+use Rattle.model.specs.Packed.{succ_word, rest_word, packed, unpacked, packs_row, packs_each, packs_rows, pack_verdict, pack_into}
 use Rattle.model.specs.Verdict.{Verdict}
-use Rattle.std.specs.Prelude.{Ok, Err}
+use Rattle.model.specs.declared.Row.{Row}
+use Rattle.model.specs.declared.Catalogue.{Catalogue}
 use Rattle.model.specs.declared.Refusal.TheVariants.{NotWellFormed}
 use Rattle.kept.specs.Conditions.{contradiction}
 use Rattle.packing.specs.OneRow.{Bytes}
-use Rattle.packing.specs.Tables.{AllBytes, none, more, PackingOf}
+use Rattle.packing.specs.Tables.{AllBytes, none, more, PackingOf, rows_number}
 use Rattle.packing.specs.Stored.{word_at, stored_row, row_stored_length}
 
 -- ---- The test ----
 
-module _ (words : List ℕ) (i : ℕ) (inside : i < 128) (size : length words ≡ 512) where
-  -- the words from row i on are those of row i, and those from row i + 1 on
-  row_dropped : drop (i * 4) words
-      ≡ word_at words (i * 4) ∷ word_at words (i * 4 + 1) ∷ word_at words (i * 4 + 2) ∷ word_at words (i * 4 + 3) ∷ drop ((i + 1) * 4) words
-  row_dropped =
-      let one : i * 4 + 1 ≡ suc (i * 4) = omega arith in
-      let two : i * 4 + 2 ≡ suc (suc (i * 4)) = omega arith in
-      let three : i * 4 + 3 ≡ suc (suc (suc (i * 4))) = omega arith in
-      let next : (i + 1) * 4 ≡ suc (suc (suc (suc (i * 4)))) = omega arith in
-      rw (one, two, three, next)
-      (drop-cons words (i * 4) 0 (omega arith)
-      ∙ ap (λ (l : List ℕ). word_at words (i * 4) ∷ l) (drop-cons words (suc (i * 4)) 0 (omega arith)
-      ∙ ap (λ (l : List ℕ). word_at words (suc (i * 4)) ∷ l) (drop-cons words (suc (suc (i * 4))) 0 (omega arith)
-      ∙ ap (λ (l : List ℕ). word_at words (suc (suc (i * 4))) ∷ l) (drop-cons words (suc (suc (suc (i * 4)))) 0 (omega arith)))))
+abbrev pub packs_four : List ℕ → Bool
+packs_four four = packs_row (word_at four 2) (word_at four 3)
 
-  pub each_more : packs_row (word_at words (i * 4 + 2)) (word_at words (i * 4 + 3)) ≡ true
-      → packs_each (drop (i * 4) words) ≡ packs_each (drop ((i + 1) * 4) words)
-  unfolding packs_each
-  each_more h = rw row_dropped (simp h)
-
-  pub each_stop : packs_row (word_at words (i * 4 + 2)) (word_at words (i * 4 + 3)) ≡ false → packs_each (drop (i * 4) words) ≡ false
-  unfolding packs_each
-  each_stop h = rw row_dropped (simp h)
-
-pub each_done : (words : List ℕ) (i : ℕ) → length words ≤ i * 4 → packs_each (drop (i * 4) words) ≡ true
+each_packs : (n : ℕ) (words : List ℕ) → length words ≡ n * 4 → list_all packs_four (first_chunks 4 n words) ≡ packs_each words
 unfolding packs_each
-each_done words i h = rw (drop_of_length-le words h)
+each_packs zero [] size = refl
+each_packs (suc n) [] size = absurd (omega arith)
+each_packs n (a ∷ []) size = absurd (omega arith)
+each_packs n (a ∷ b ∷ []) size = absurd (omega arith)
+each_packs n (a ∷ b ∷ c ∷ []) size = absurd (omega arith)
+each_packs zero (k ∷ e ∷ s ∷ r ∷ words) size = absurd (omega arith)
+each_packs (suc n) (k ∷ e ∷ s ∷ r ∷ words) size = ap (λ (b : Bool). packs_row s r && b) (each_packs n words (omega arith))
 
-pub sized_rows : (words : List ℕ) (b : Bool) → length words ≡ 512 → packs_each words ≡ b → b ≡ packs_rows words
+pub all_pack : (words : List ℕ) (chunks : List (List ℕ)) → length words ≡ 512 → chunks ≡ first_chunks 4 (length words / 4) words
+    → list_all packs_four chunks ≡ packs_rows words
 unfolding packs_rows
-sized_rows words b size h = rw (eq-eqb (length words) 512 size) (sym h)
-
-pub unsized_rows : (words : List ℕ) → (length words ≡ 512 → ⊥) → false ≡ packs_rows words
-unfolding packs_rows
-unsized_rows words h = rw (ne_eqb (length words) 512 h)
+all_pack words chunks size cut =
+    rw (eq-eqb (length words) 512 size) (ap (list_all packs_four) cut ∙ each_packs (length words / 4) words (omega arith))
 
 -- ---- Rows read from words ----
 
-pub filled : (rows all : List Row) (i : ℕ) (row : Row) → i < length rows → i < length all → row ≡ row_at all i → take i rows ≡ take i all
-    → take (i + 1) (set rows i row) ≡ take (i + 1) all
-filled rows all i row inside there found before =
-    rw add-one (take-suc-set rows i row inside ∙ rw (before, found) (sym (take-suc all i free_row there)))
+-- what a closure that stays as it is says of each index
+made_each : {F B : Type 0} (g : Mut F (ℕ × Unit {0}) B) (Q : ℕ → B → Type 0) (f : F) → ((x : ℕ) (y : B) (q : F) → Called g f (x, tt) y q → (q ≡ f) × Q x y)
+    → (ys : List B) (i n : ℕ) → IsFromFnResultFrom g f ys i n → (k : ℕ) (d : B) → i ≤ k → k < i + n → Q k (get_or ys k d)
+made_each g Q f says ys i zero made k d low high = absurd (omega arith)
+made_each g Q f says ys i (suc n) (q, y, there, called, later) k d low high =
+    let said = says i y q called in
+    elim (cases_lt i k) [
+      | inl above ↦ made_each g Q f says ys (i + 1) n (rw (said.0) at later) k d (omega arith) (omega arith)
+      | inr same ↦ let here : k ≡ i = omega arith in rw (here, there.1 d) said.1
+    ]
 
-pub all_filled : {A : Type 0} (n : ℕ) (rows all : List A) → length rows ≡ n → length all ≡ n → take n rows ≡ take n all → rows ≡ all
-all_filled n rows all p q h = sym (take_all n rows (omega arith)) ∙ h ∙ take_all n all (omega arith)
+pub rows_read : {F : Type 0} (g : Mut F (ℕ × Unit {0}) Row) (f : F) (words : List ℕ) (rows : List Row) → length words ≡ 512
+    → IsFromFnResult g f rows 128 → ((x : ℕ) (y : Row) (q : F) → Called g f (x, tt) y q → (q ≡ f) × (y ≡ row_at (unpacked words) x))
+    → rows ≡ unpacked words
+rows_read g f words rows size made says =
+    let long = rows_number 128 words size in
+    ext_get_or free_row rows (unpacked words) (omega (arith, made.long))
+    (λ i h. made_each g (λ x y. y ≡ row_at (unpacked words) x) f says rows 0 128 made.each i free_row (omega arith) (omega (arith, made.long)))
+
+pub no_table : (words : List ℕ) → (length words ≡ 512 → ⊥) → packs_rows words ≡ false
+unfolding packs_rows
+no_table words h = rw (ne_eqb (length words) 512 h)
 
 -- ---- Rows packed into words ----
 
@@ -143,22 +140,3 @@ none_packed c words h = record {
   words = rw (ne_eqb (length words) 512 h);
   rows = λ e. contradiction (cc);
 }
-
--- ---- What the tests say of the definitions ----
-
-module _ (words : List ℕ) (workers : List Worker) where
-  pub well_if_packs : packs_rows words ≡ true → well_formed (state_of words workers) ≡ packed_well words workers
-  unfolding packed_well
-  well_if_packs h = rw h
-
-  pub not_well_if_none : packs_rows words ≡ false → false ≡ packed_well words workers
-  unfolding packed_well
-  not_well_if_none h = rw h
-
-  pub unpacks : packs_rows words ≡ true → accept (state_of words workers) ≡ unpack words workers
-  unfolding unpack
-  unpacks h = rw h
-
-  pub unpacks_nothing : packs_rows words ≡ false → refuse NotWellFormed empty_catalogue ≡ unpack words workers
-  unfolding unpack
-  unpacks_nothing h = rw h

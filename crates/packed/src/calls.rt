@@ -3,45 +3,62 @@
 ghost use Rattle.std.specs.Prelude.{◌≡◌};
 ghost use Rattle.model.specs.Packed.{packed_call};
 ghost use Rattle.model.specs.declared.Call.TheVariants.{Submit, Step};
-ghost use Rattle.packed.specs.Calls.{refused_call};
 
-use crate::steps::step_worker;
-use crate::tables::{packed_well, packs_rows, state_of};
-use model::{Called, Catalogue, Refusal, Verdict, Worker};
+use crate::whole::state_of;
+use model::{Call, Called, Catalogue, Refusal, Stepped, Worker};
+use well_formed::well_formed;
 
-fn refused(refusal: Refusal, workers: [Worker; Catalogue::WORKERS]) -> Called
-    ensures { result ≡ refused_call refusal workers }
+// Step in place, refusals 1, 4, 3, 5. Refused, it leaves every word.
+#[tactic(auto, unfolding(model::specs::Packed::packed_call))]
+fn take_step(
+    words: &mut [u32],
+    workers: &mut [Worker; Catalogue::WORKERS],
+    worker: u32,
+) -> Result<(), Refusal>
+    ensures { record { called = record { verdict = result; workers = workers.new }; words = words.new } ≡ packed_call words.old workers.old (Step worker) }
 {
-    Called {
-        verdict: Err(refusal),
-        workers: workers,
+    if 7 < worker {
+        return Err(Refusal::NoSuchWorker);
     }
+    let Some(table) = words.as_mut_array::<512>() else {
+        return Err(Refusal::NotWellFormed);
+    };
+    if !well_formed(state_of(table, *workers)?) {
+        return Err(Refusal::NotWellFormed);
+    }
+    engine::step_worker(table, &mut workers[worker as usize], worker as u8)
 }
 
-// Refusals 1, 4, 3, 5. Refused, it leaves every word.
+// Submit in place, refusals 1, 4, 6, 2.
+#[tactic(auto, unfolding(model::specs::Packed::packed_call))]
+fn begin(
+    words: &[u32],
+    workers: &mut [Worker; Catalogue::WORKERS],
+    worker: u32,
+    code: u32,
+    key: u32,
+    element: u32,
+) -> Result<(), Refusal>
+    ensures { record { verdict = result; workers = workers.new } ≡ (packed_call words.now workers.old (Submit worker code key element)).called }
+{
+    if 7 < worker {
+        return Err(Refusal::NoSuchWorker);
+    }
+    let state = state_of(words, *workers)?;
+    let Stepped { verdict, state } = engine::submit(state, worker, code, key, element);
+    let Catalogue { workers: after, .. } = state;
+    *workers = after;
+    verdict
+}
+
 pub fn step(words: &mut [u32], workers: [Worker; Catalogue::WORKERS], worker: u32) -> Called
     ensures { (result ≡ (packed_call words.old workers (Step worker)).called) × (words.new ≡ (packed_call words.old workers (Step worker)).words) }
 {
-    if 7 < worker {
-        return refused(Refusal::NoSuchWorker, workers);
-    }
-    if packed_well(words, workers) {
-        let mut after = workers;
-        let j = worker as usize;
-        let k = after[j];
-        let moved = step_worker(words, k, worker as u8);
-        let verdict = moved.verdict;
-        let record = moved.worker;
-        after[j] = record;
-        return Called {
-            verdict: verdict,
-            workers: after,
-        };
-    }
-    refused(Refusal::NotWellFormed, workers)
+    let mut workers = workers;
+    let verdict = take_step(words, &mut workers, worker);
+    Called { verdict, workers }
 }
 
-// Refusals 1, 4, 6, 2.
 pub fn submit(
     words: &[u32],
     workers: [Worker; Catalogue::WORKERS],
@@ -52,18 +69,21 @@ pub fn submit(
 ) -> Called
     ensures { result ≡ (packed_call words.now workers (Submit worker code key element)).called }
 {
-    if 7 < worker {
-        return refused(Refusal::NoSuchWorker, workers);
+    let mut workers = workers;
+    let verdict = begin(words, &mut workers, worker, code, key, element);
+    Called { verdict, workers }
+}
+
+pub fn call(words: &mut [u32], workers: [Worker; Catalogue::WORKERS], made: Call) -> Called
+    ensures { (result ≡ (packed_call words.old workers made).called) × (words.new ≡ (packed_call words.old workers made).words) }
+{
+    match made {
+        Call::Submit {
+            worker,
+            code,
+            key,
+            element,
+        } => submit(words, workers, worker, code, key, element),
+        Call::Step { worker } => step(words, workers, worker),
     }
-    if packs_rows(words) {
-        let stepped = engine::submit(state_of(words, workers), worker, code, key, element);
-        let verdict = stepped.verdict;
-        let state = stepped.state;
-        let after = state.workers;
-        return Called {
-            verdict: verdict,
-            workers: after,
-        };
-    }
-    refused(Refusal::NotWellFormed, workers)
 }

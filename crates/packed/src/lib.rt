@@ -4,9 +4,7 @@
 #![tactic(auto)]
 
 mod calls;
-mod steps;
-mod tables;
+mod whole;
 
-pub use calls::{step, submit};
-pub use steps::{Moved, step_worker};
-pub use tables::{pack, unpack};
+pub use calls::{call, step, submit};
+pub use whole::{pack, unpack};

@@ -1,11 +1,11 @@
-// One row in lent words: read, stored, told whether its words are a row's, and the lowest free row. For the crate `packed`. The layout is
-// the model's, in `specs/Packed.antt`: key, element, successor, and the rest.
+// One row in lent words: read, stored, and told whether its words are a row's. The layout is the model's, in `specs/Packed.antt`: key,
+// element, successor, and the rest.
 
 #![tactic(auto)]
 
 ghost use Rattle.std.specs.Prelude.{◌<◌, ◌≤◌, ◌≡◌, length};
 ghost use Rattle.model.specs.State.{row_at};
-ghost use Rattle.model.specs.Packed.{bit, succ_word, standing_number, rest_word, succ_from, standing_from, row_from, unpacked, packs_row};
+ghost use Rattle.model.specs.Packed.{succ_word, standing_number, rest_word, succ_from, standing_from, row_from, unpacked, packs_row};
 ghost use Rattle.packing.specs.OneRow.{Bytes};
 ghost use Rattle.packing.specs.Stored.{stored_row};
 
@@ -28,13 +28,11 @@ fn succ_from(word: u32) -> Succ
 fn standing_from(number: u32) -> Standing
     ensures { result ≡ standing_from number }
 {
-    if number == 0 {
-        return Standing::Free;
+    match number {
+        0 => Standing::Free,
+        1 => Standing::Linked,
+        _ => Standing::Held(((number - 2) % 256) as u8),
     }
-    if number == 1 {
-        return Standing::Linked;
-    }
-    Standing::Held(((number - 2) % 256) as u8)
 }
 
 #[tactic(auto, unfolding(model::specs::Packed::row_from))]
@@ -42,8 +40,8 @@ fn row_from(key: u32, element: u32, succ: u32, rest: u32) -> Row
     ensures { result ≡ row_from key element succ rest }
 {
     Row {
-        key: key,
-        element: element,
+        key,
+        element,
         backlink: (rest % 256) as u8,
         succ: succ_from(succ),
         standing: standing_from(rest / 256),
@@ -55,35 +53,28 @@ pub fn row_at(words: &[u32], i: u8) -> Row
     requires { length words.now ≡ 512 }
     ensures { result ≡ row_at (unpacked words.now) i }
 {
-    let at = (i as usize) * 4;
-    if at < 512 {
-        return row_from(words[at], words[at + 1], words[at + 2], words[at + 3]);
+    match words.as_chunks::<4>().0.get(usize::from(i)) {
+        Some(&[key, element, succ, rest]) => row_from(key, element, succ, rest),
+        None => free_row(),
     }
-    free_row()
 }
 
 // ---- A row's words ----
-
-fn bit(b: bool) -> u32
-    ensures { (result ≡ bit b) × (result ≤ 1) }
-{
-    if b { 1 } else { 0 }
-}
 
 #[tactic(auto, unfolding(model::specs::Packed::succ_word))]
 fn succ_word(succ: Succ) -> u32
     ensures { result ≡ succ_word succ }
 {
-    (succ.right as u32) * 4 + bit(succ.mark) * 2 + bit(succ.flag)
+    u32::from(succ.right) * 4 + u32::from(succ.mark) * 2 + u32::from(succ.flag)
 }
 
-fn standing_number(s: Standing) -> u32
-    ensures { (result ≡ standing_number s) × (result < 258) }
+fn standing_number(standing: Standing) -> u32
+    ensures { (result ≡ standing_number standing) × (result < 258) }
 {
-    match s {
+    match standing {
         Standing::Free => 0,
-        Standing::Held(w) => w as u32 + 2,
         Standing::Linked => 1,
+        Standing::Held(worker) => u32::from(worker) + 2,
     }
 }
 
@@ -92,8 +83,7 @@ fn standing_number(s: Standing) -> u32
 fn rest_word(row: Row) -> u32
     ensures { (result ≡ rest_word row) × Bytes row }
 {
-    let standing = row.standing;
-    standing_number(standing) * 256 + row.backlink as u32
+    standing_number(row.standing) * 256 + u32::from(row.backlink)
 }
 
 // Stores row i; past the last nothing is stored.
@@ -102,14 +92,10 @@ pub fn store_row(words: &mut [u32], i: u8, row: Row)
     requires { length words.old ≡ 512 }
     ensures { (words.new ≡ stored_row words.old i row) × Bytes row }
 {
-    let at = (i as usize) * 4;
-    let succ = row.succ;
-    let rest = rest_word(row);
+    let four = [row.key, row.element, succ_word(row.succ), rest_word(row)];
+    let at = usize::from(i) * 4;
     if at < 512 {
-        words[at] = row.key;
-        words[at + 1] = row.element;
-        words[at + 2] = succ_word(succ);
-        words[at + 3] = rest;
+        words[at..at + 4].copy_from_slice(&four);
     }
 }
 
@@ -120,8 +106,5 @@ pub fn store_row(words: &mut [u32], i: u8, row: Row)
 pub fn packs_row(succ: u32, rest: u32) -> bool
     ensures { result ≡ packs_row succ rest }
 {
-    if succ_word(succ_from(succ)) == succ {
-        return rest_word(row_from(0, 0, succ, rest)) == rest;
-    }
-    false
+    succ_word(succ_from(succ)) == succ && rest_word(row_from(0, 0, succ, rest)) == rest
 }
