@@ -1,4 +1,2 @@
-pub mod Comparisons
-pub mod Slots
 pub mod LowestFree
 pub mod Requests

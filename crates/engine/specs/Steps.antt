@@ -1,7 +1,7 @@
 -- What the code of a step promises, and one law for each way out.
-use Rattle.std.specs.Prelude.{if◌then◌else◌, ℕ, ◌<◌, ◌≡◌, refl, Bool, true, false, List, length, get_or, set}
+use Rattle.std.specs.Prelude.{if◌then◌else◌, ℕ, ◌≡◌, refl, Bool, true, false, List, length, set}
 use Rattle.std.specs.Prelude.{Ok, Err}
-use Rattle.std.proofs.Common.{◌∙◌, ap, length-set}
+use Rattle.std.proofs.Common.{length-set}
 use Rattle.std.proofs.lemmas.List.{set-get_or}
 use Rattle.model.specs.Verdict.{Verdict}
 use Rattle.model.specs.State.{worker_at, idle}
@@ -13,11 +13,6 @@ use Rattle.model.specs.declared.Effect.{Effect}
 use Rattle.model.specs.declared.Catalogue.{Catalogue}
 use Rattle.model.specs.declared.Stepped.{Stepped}
 use Rattle.model.specs.declared.Refusal.TheVariants.{WorkerIdle, NinthHelp}
-use Rattle.accesses.specs.Slots.{get_or_any}
-
--- what the code reads at the worker's index is the worker's own
-pub idle_found : (workers : List Worker) (w : ℕ) (d : Worker) (b : Bool) → w < length workers → idle (get_or workers w d).line ≡ b → idle (worker_at workers w).line ≡ b
-idle_found workers w d b inside i = ap (λ (k : Worker). idle k.line) (get_or_any workers w _ d inside) ∙ i
 
 -- A step of worker `me` on these rows answered this, and left this record and these rows: it is the model's, whoever the others are.
 abbrev pub StepsAs : List Row → List Worker → ℕ → Verdict → Worker → List Row → Type 0
