@@ -35,14 +35,14 @@ impl Table for [Row; Catalogue::ROWS] {
 
     fn row(&self, i: u8) -> Row {
         if i < 128 {
-            return self[i as usize];
+            return self[usize::from(i)];
         }
         free_row()
     }
 
     fn store(&mut self, i: u8, row: Row) {
         if i < 128 {
-            self[i as usize] = row;
+            self[usize::from(i)] = row;
         }
     }
 }
