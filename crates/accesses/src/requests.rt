@@ -2,7 +2,7 @@
 
 ghost use Rattle.std.specs.Prelude.{◌≡◌};
 ghost use Rattle.model.specs.Step.{first_line};
-ghost use Rattle.accesses.specs.Requests.{code_of, Asks};
+ghost use Rattle.accesses.specs.Requests.{Asks};
 
 use crate::effects::call_search_from;
 use crate::order::HEAD;
@@ -30,11 +30,13 @@ impl TryFrom<u32> for Request {
     }
 }
 
-// The private work before the first access. The element of another request than an insert is stored as 0.
+// The private work before the first access. The element of another request than an insert is stored as 0. A code that is no request's stands
+// for a delete here, as in the definition: a submit has refused it.
 #[tactic(auto, unfolding(model::specs::Step::first_line))]
-pub fn first_line(request: Request, key: u32, element: u32) -> Line
-    ensures { result ≡ first_line (code_of request) key element }
+pub fn first_line(code: u32, key: u32, element: u32) -> Line
+    ensures { result ≡ first_line code key element }
 {
+    let request = Request::try_from(code).unwrap_or(Request::Delete);
     let (element, caller) = match request {
         Request::Search => (0, SearchCaller::Search1),
         Request::Insert => (element, SearchCaller::Insert1),

@@ -49,11 +49,11 @@ fn begin(
     if !well_formed(*state) {
         return Err(Refusal::NotWellFormed);
     }
-    let request = Request::try_from(code)?;
+    Request::try_from(code)?;
     if !is_idle(state.workers[worker as usize].line) {
         return Err(Refusal::WorkerBusy);
     }
-    state.workers[worker as usize] = fresh_worker(first_line(request, key, element));
+    state.workers[worker as usize] = fresh_worker(first_line(code, key, element));
     Ok(())
 }
 

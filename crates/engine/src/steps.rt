@@ -2,14 +2,23 @@
 
 ghost use Rattle.std.specs.Prelude.{◌≡◌, false, List};
 ghost use Rattle.model.specs.State.{worker_at};
-ghost use Rattle.model.specs.Step.{written, stacked, worker_after, ninth_help};
+ghost use Rattle.model.specs.Step.{effect_of, written, stacked, worker_after, ninth_help};
 ghost use Rattle.model.specs.declared.Worker.{Worker};
 ghost use Rattle.engine.specs.Steps.{StepsAs};
 
-use accesses::{is_idle, ninth_help, with_help};
+use accesses::{help_at, is_idle, ninth_help, with_help};
 use lines::act;
 use model::{Effect, Line, Pending, Refusal, Stack, Worker, Write, fresh_worker};
 use tables::Table;
+
+// What the worker's line does.
+#[tactic(auto, unfolding(model::specs::Step::effect_of))]
+fn effect_on<T: Table>(table: &T, me: u8, worker: Worker) -> Effect
+    ensures { result ≡ effect_of (T.rows table.now) me worker }
+{
+    let last = help_at(worker.helps, worker.count.saturating_sub(1));
+    act(table, me, worker.count, last, worker.line)
+}
 
 // The slot of a popped help becomes zero.
 #[tactic(auto, unfolding(model::specs::Step::stacked, model::specs::Step::ninth_help))]
@@ -72,7 +81,7 @@ pub fn step_worker<T: Table>(table: &mut T, worker: &mut Worker, me: u8) -> Resu
     if is_idle(worker.line) {
         return Err(Refusal::WorkerIdle);
     }
-    let effect = act(table, me, *worker);
+    let effect = effect_on(table, me, *worker);
     if ninth_help(worker.count, effect.stack) {
         return Err(Refusal::NinthHelp);
     }
