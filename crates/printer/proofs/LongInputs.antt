@@ -1,41 +1,24 @@
 -- The largest file has 60,003 bytes. A longer one is refused whatever stands behind byte 60,004, so it is enough to read that many.
-use Rattle.std.specs.Prelude.{if◌then◌else◌, ◌≡◌, ℕ, ◌<◌, ◌≤◌, Bool, true, false, not, List, length, take, ltb, eqb, None, Some, IfSome, Result, Ok, Err, IfOk, OnOk, OnErr, refl}
-use Rattle.std.proofs.Common.{sym, ap, subst, ◌∙◌, arith, take_all, length-take-le, length-drop, le-ltb, ltb-false, get_or-take, inl, inr}
-use Rattle.std.proofs.lemmas.Bool.{ne_eqb, cases_lt}
+use Rattle.std.specs.Prelude.{if◌then◌else◌, ◌≡◌, ℕ, ◌<◌, ◌≤◌, not, List, length, take, ltb, eqb, None, Some, IfSome, Result, Ok, Err, IfOk, OnOk, OnErr}
+use Rattle.std.proofs.Common.{sym, ap, subst, ◌∙◌, arith, take_all, length-take-le, length-drop, get_or-take, inl, inr}
+use Rattle.std.proofs.lemmas.Bool.{cases_lt}
+use Rattle.std.proofs.lemmas.Bool.Decides.{nat_tests}
 use Rattle.std.specs.declared.option.Option.{Option}
 use Rattle.std.specs.Io.KnownBytes.{Appends}
 use Rattle.printer.specs.Written.{AppendsFront}
-use Rattle.model.specs.Schedule.{byte_at, two_bytes, stated_length, body, records_fit, file_verdict}
+use Rattle.model.specs.Schedule.{byte_at, two_bytes, stated_length, file_verdict}
 use Rattle.model.specs.Printed.{refused_file, file_text, printed}
 use Rattle.model.specs.Verdict.{Verdict}
-use Rattle.std.specs.Prelude.{Ok, Err}
 use Rattle.model.specs.declared.Refusal.{Refusal}
-use Rattle.model.specs.declared.Refusal.TheVariants.{FileVersion, FileLength, FileRecord, FileTooLong}
+use Rattle.model.specs.declared.Refusal.TheVariants.{FileVersion, FileLength, FileTooLong}
 
 -- why a file of more than 60,003 bytes is refused, by its version and the length that it states
 abbrev why : ℕ → ℕ → Refusal
 why version stated = if not (eqb version 1) then FileVersion else if ltb 60000 stated then FileTooLong else FileLength
 
-tests : (version stated size : ℕ) (fits : Bool) → 60000 < size
-    → (if not (eqb version 1) then Err FileVersion else if ltb 60000 stated then Err FileTooLong
-    else if not (eqb stated size) then Err FileLength else if not fits then Err FileRecord else (Ok tt))
-    ≡ Err (why version stated)
-tests version stated size fits h = go (not (eqb version 1)) (ltb 60000 stated) refl
-  where
-    go : (other big : Bool) → ltb 60000 stated ≡ big
-        → (if other then Err FileVersion else if big then Err FileTooLong
-        else if not (eqb stated size) then Err FileLength else if not fits then Err FileRecord else (Ok tt))
-        ≡ Err (if other then FileVersion else if big then FileTooLong else FileLength)
-    go true big e = refl
-    go false true e = refl
-    go false false e = simp (ne_eqb stated size (omega (arith, ltb-false 60000 stated e)))
-
 long : (file : List ℕ) → 60003 < length file → file_verdict file ≡ Err (why (byte_at file 0) (stated_length file))
 unfolding file_verdict
-long file h =
-    let whole : ltb (length file) 3 ≡ false = le-ltb (length file) 3 (omega arith) in
-    rw whole (tests (byte_at file 0) (stated_length file) (length (body file)) (records_fit (length (body file)) (body file))
-    (omega (arith, length-drop 3 file)))
+long file h = grind (arith, length-drop, nat_tests)
 
 -- Of any file the first n bytes are enough: either they are all, or both are refused, and for the same reason.
 module _ (n : ℕ) (file : List ℕ) (enough : 60003 < n) where

@@ -1,91 +1,80 @@
 -- A run on its way: what was written so far, and that what is left to print makes it whole.
-use Rattle.std.specs.Prelude.{◌≡◌, ℕ, zero, suc, ◌+◌, ◌-◌, ◌^◌, ◌<◌, ◌≤◌, List, [], ◌++◌, length, drop, refl}
-use Rattle.std.proofs.Common.{sym, ap, ◌∙◌, subst, append_assoc, arith, length-drop}
+use Rattle.std.specs.Prelude.{◌≡◌, ℕ, zero, suc, None, Some, Ok, Err, List, [], ◌++◌, length}
+use Rattle.std.proofs.Common.{sym, ap, ◌∙◌, subst, append_assoc, arith}
 use Rattle.std.specs.declared.option.Option.{Option}
 use Rattle.std.specs.Io.KnownBytes.{Appends}
 use Rattle.std.proofs.KnownBytes.{Appends-nil, Appends-trans}
-use Rattle.schedule.specs.declared.text.Text.{Text}
-use Rattle.schedule.specs.declared.run.Run.{Run}
-use Rattle.schedule.specs.declared.run.Event.{Event}
-use Rattle.model.specs.Schedule.{body, calls_from, calls_of, file_verdict}
-use Rattle.model.specs.Printed.{heading, last_line, run_text, refused_file, file_text, printed}
-use Rattle.std.specs.Prelude.{Ok, Err}
+use Rattle.arrayvec.specs.ArrayVec.{ArrayVec}
+use Rattle.model.specs.Schedule.{body, calls_of, file_verdict}
+use Rattle.model.specs.Printed.{heading, last_line, refused_file, file_text, printed}
 use Rattle.model.specs.declared.Refusal.{Refusal}
+use Rattle.schedule.specs.declared.run.Run.{Run}
 use Rattle.schedule.specs.Shown.{shown, Shows}
-use Rattle.schedule.specs.Events.{start_run, Happens}
-use Rattle.schedule.proofs.Whole.{event_prints, still_enough, last_prints, accepted_short, refused_prints}
+use Rattle.schedule.specs.Events.{Starts, Event, Happens}
+use Rattle.schedule.proofs.Whole.{left_to_print, Lasts, event_prints, still_enough, last_prints, start_lasts, refused_prints}
 use Rattle.printer.specs.Written.{AppendsFront, all_lines}
 use Rattle.printer.proofs.Fronts.{behind, longer}
 
-abbrev left_to_print : List ℕ → Run → ℕ → List ℕ
-left_to_print file r tries = run_text r.event r.state (calls_from tries (drop r.at file))
-
--- The bytes `lines` were written, and with what is left to print from r on they are all lines. The tries are as many as the bytes that
--- are left, and the event numbers fit.
-pub record OnTheWay (file : List ℕ) (r : Run) (old new : Option (List ℕ)) : Type 0 where
+-- The bytes `lines` were written, and with what is left to print they are all lines.
+pub record OnTheWay (file : List ℕ) (run : Run) (old new : Option (List ℕ)) : Type 0 where
   pub tries : ℕ
-  pub enough : length file - r.at ≤ tries
-  pub fits : r.event + (length file - r.at) < 2 ^ 32
+  pub lasts : Lasts run tries
   pub lines : List ℕ
-  pub whole : lines ++ left_to_print file r tries ≡ all_lines file
+  pub whole : lines ++ left_to_print run tries ≡ all_lines file
   pub written : Appends old new lines
 
-pub at_start : (file : List ℕ) (a : Option (List ℕ)) → file_verdict file ≡ Ok tt → OnTheWay file start_run a a
+pub at_start : {file : List ℕ} {start : Run} (a : Option (List ℕ)) → Starts file start → file_verdict file ≡ Ok tt → OnTheWay file start a a
 unfolding calls_of
-at_start file a accepted =
-    let short : length (body file) ≤ 60000 = accepted_short file accepted in
-    record {
-      tries = length (body file);
-      enough = omega (arith, length-drop 3 file);
-      fits = omega (arith, length-drop 3 file);
-      lines = [];
-      whole = refl;
-      written = Appends-nil a;
-    }
+at_start {file} a starts accepted = record {
+  tries = length (body file);
+  lasts = start_lasts accepted starts;
+  lines = [];
+  whole = rw (starts.state, starts.event, starts.records);
+  written = Appends-nil a;
+}
 
-module _ {file : List ℕ} {r : Run} {a b : Option (List ℕ)} (before : OnTheWay file r a b) where
-  -- What follows where a record is left: its event's line, and what is left to print after it.
-  module _ {e : Event} (inside : r.at < length file) (happens : Happens file r e) where
+module _ {file : List ℕ} {run : Run} {a b : Option (List ℕ)} (before : OnTheWay file run a b) where
+  -- What follows where a record is left: its event's text, and what is left to print after it.
+  module _ {text : ArrayVec ℕ} {next : Run} (happens : Happens run (Some text) next) where
+    one : Event run happens.0 happens.1 text next
+    one = happens.2
+
     record Follows : Type 0 where
       pub tries : ℕ
-      pub enough : length file - e.run.at ≤ tries
-      pub fits : e.run.event + (length file - e.run.at) < 2 ^ 32
-      pub whole : before.lines ++ (shown e.text ++ left_to_print file e.run tries) ≡ all_lines file
+      pub lasts : Lasts next tries
+      pub whole : before.lines ++ (shown text ++ left_to_print next tries) ≡ all_lines file
 
     follows : Follows
-    follows = go before.tries before.enough before.whole
+    follows = go before.tries before.lasts before.whole
       where
-        go : (tries : ℕ) → length file - r.at ≤ tries → before.lines ++ left_to_print file r tries ≡ all_lines file → Follows
-        go zero enough whole = absurd (omega arith)
-        go (suc tries) enough whole =
-            let still = still_enough inside happens tries enough before.fits in
-            record {
-              tries = tries;
-              enough = still.0;
-              fits = still.1;
-              whole = ap (λ (l : List ℕ). before.lines ++ l) (sym (event_prints inside happens tries before.fits)) ∙ whole;
-            }
+        go : (tries : ℕ) → Lasts run tries → before.lines ++ left_to_print run tries ≡ all_lines file → Follows
+        go zero lasts whole = absurd (omega (arith, lasts.enough, ap length one.there))
+        go (suc tries) lasts whole = record {
+          tries = tries;
+          lasts = still_enough one lasts;
+          whole = ap (λ (l : List ℕ). before.lines ++ l) (sym (event_prints one lasts)) ∙ whole;
+        }
 
     -- one event more
-    pub one_more : (c : Option (List ℕ)) → Appends b c (shown e.text) → OnTheWay file e.run a c
+    pub one_more : (c : Option (List ℕ)) → Appends b c (shown text) → OnTheWay file next a c
     one_more c line = record {
       tries = follows.tries;
-      enough = follows.enough;
-      fits = follows.fits;
-      lines = before.lines ++ shown e.text;
-      whole = append_assoc before.lines (shown e.text) (left_to_print file e.run follows.tries) ∙ follows.whole;
+      lasts = follows.lasts;
+      lines = before.lines ++ shown text;
+      whole = append_assoc before.lines (shown text) (left_to_print next follows.tries) ∙ follows.whole;
       written = Appends-trans a b c _ _ before.written line;
     }
 
-    -- a write of its line that stopped
-    pub stopped_there : (c : Option (List ℕ)) → AppendsFront b c (shown e.text) → AppendsFront a c (all_lines file)
-    stopped_there c part =
-        subst (AppendsFront a c) follows.whole (behind a b c before.lines _ before.written (longer b c (shown e.text) _ part))
+    -- a write of its text that stopped
+    pub stopped_there : (c : Option (List ℕ)) → AppendsFront b c (shown text) → AppendsFront a c (all_lines file)
+    stopped_there c part = subst (AppendsFront a c) follows.whole (behind a b c before.lines _ before.written (longer b c (shown text) _ part))
 
   -- And the last line, where no record is left.
-  module _ {last : Text} (past : length file ≤ r.at) (shows : Shows (last_line r.state) last) where
+  module _ {end : Run} {last : ArrayVec ℕ} (over : Happens run None end) (shows : Shows (last_line end.state) last) where
     whole_then : before.lines ++ shown last ≡ all_lines file
-    whole_then = ap (λ (l : List ℕ). before.lines ++ l) (shows.shows ∙ sym (last_prints file r past before.tries)) ∙ before.whole
+    whole_then =
+        ap (λ (l : List ℕ). before.lines ++ l) (shows ∙ ap (λ (r : Run). last_line r.state) over.1 ∙ sym (last_prints run over.0 before.tries))
+        ∙ before.whole
 
     pub at_end : (c : Option (List ℕ)) → Appends b c (shown last) → Appends a c (all_lines file)
     at_end c line = subst (Appends a c) whole_then (Appends-trans a b c _ _ before.written line)
@@ -96,26 +85,26 @@ module _ {file : List ℕ} {r : Run} {a b : Option (List ℕ)} (before : OnTheWa
 -- ---- The whole file ----
 
 module _ (file : List ℕ) where
-  accepted_whole : {first : Text} → (Ok tt) ≡ file_verdict file → Shows heading first → shown first ++ all_lines file ≡ printed file
+  accepted_whole : {first : ArrayVec ℕ} → (Ok tt) ≡ file_verdict file → Shows heading first → shown first ++ all_lines file ≡ printed file
   unfolding printed file_text
-  accepted_whole accepted shows = rw (← accepted, shows.shows)
+  accepted_whole accepted shows = rw (← accepted, shows)
 
   -- with the heading before them, these are the bytes of an accepted file
-  pub all_told : (first : Text) (a b c : Option (List ℕ)) → (Ok tt) ≡ file_verdict file → Shows heading first
+  pub all_told : (first : ArrayVec ℕ) (a b c : Option (List ℕ)) → (Ok tt) ≡ file_verdict file → Shows heading first
       → Appends a b (shown first) → Appends b c (all_lines file) → Appends a c (printed file)
   all_told first a b c accepted shows head told = subst (Appends a c) (accepted_whole accepted shows) (Appends-trans a b c _ _ head told)
 
-  pub stopped_in_heading : (first : Text) (a b : Option (List ℕ)) → (Ok tt) ≡ file_verdict file → Shows heading first
+  pub stopped_in_heading : (first : ArrayVec ℕ) (a b : Option (List ℕ)) → (Ok tt) ≡ file_verdict file → Shows heading first
       → AppendsFront a b (shown first) → AppendsFront a b (printed file)
   stopped_in_heading first a b accepted shows part = subst (AppendsFront a b) (accepted_whole accepted shows) (longer a b (shown first) _ part)
 
-  pub stopped_in_lines : (first : Text) (a b c : Option (List ℕ)) → (Ok tt) ≡ file_verdict file → Shows heading first
+  pub stopped_in_lines : (first : ArrayVec ℕ) (a b c : Option (List ℕ)) → (Ok tt) ≡ file_verdict file → Shows heading first
       → Appends a b (shown first) → AppendsFront b c (all_lines file) → AppendsFront a c (printed file)
   stopped_in_lines first a b c accepted shows head part =
       subst (AppendsFront a c) (accepted_whole accepted shows) (behind a b c (shown first) _ head part)
 
   -- one line is the bytes of a refused file
-  module _ (r : Refusal) (only : Text) (a b : Option (List ℕ)) (refused : Err r ≡ file_verdict file) (shows : Shows (refused_file r) only) where
+  module _ (r : Refusal) (only : ArrayVec ℕ) (a b : Option (List ℕ)) (refused : Err r ≡ file_verdict file) (shows : Shows (refused_file r) only) where
     pub refused_told : Appends a b (shown only) → Appends a b (printed file)
     refused_told told = subst (Appends a b) (refused_prints file (sym refused) shows) told
 

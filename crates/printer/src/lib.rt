@@ -11,7 +11,6 @@ ghost use Rattle.std.specs.Prelude.{◌≡◌, IfSome, IfOk, OnOk, OnErr};
 ghost use Rattle.std.specs.Io.KnownBytes.{Appends};
 ghost use Rattle.model.specs.Schedule.{file_verdict};
 ghost use Rattle.model.specs.Printed.{printed};
-ghost use Rattle.std.specs.Prelude.{Ok};
 ghost use Rattle.printer.specs.Written.{AppendsFront, all_lines};
 
 pub use input::read_full;
@@ -26,13 +25,11 @@ fn run_events<W: Write>(out: &mut W, file: &[u8]) -> io::Result<()>
     ensures written { OnOk result (file_verdict file.now ≡ Ok tt → Appends (W.contents out.old) (W.contents out.new) (all_lines file.now)) }
     ensures stopped { OnErr result (file_verdict file.now ≡ Ok tt → AppendsFront (W.contents out.old) (W.contents out.new) (all_lines file.now)) }
 {
-    let mut run = Run::start();
-    while run.at < file.len() {
-        let event = schedule::next_event(file, run);
-        show(out, event.text)?;
-        run = event.run;
+    let mut run = Run::start(file);
+    while let Some(text) = run.next_event() {
+        show(out, &text)?;
     }
-    show(out, schedule::last_line(run.state))
+    show(out, &schedule::last_line(run.state))
 }
 
 // Prints all that the file prints, and answers whether it was refused. The only error is that of a write.
@@ -43,9 +40,9 @@ pub fn replay<W: Write>(out: &mut W, file: &[u8]) -> io::Result<Verdict>
 {
     let verdict = schedule_file::check(file);
     match verdict {
-        Err(refusal) => show(out, schedule::refused_file(refusal))?,
+        Err(refusal) => show(out, &schedule::refused_file(refusal))?,
         Ok(()) => {
-            show(out, schedule::heading())?;
+            show(out, &schedule::heading())?;
             run_events(out, file)?;
         }
     }

@@ -1,7 +1,6 @@
 pub mod Shown
-pub mod Digits
-pub mod Lines
-pub mod Rows
 pub mod Events
+pub mod Digits
+pub mod Rows
 pub mod Whole
 pub mod OneOutcome

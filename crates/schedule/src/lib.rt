@@ -1,7 +1,7 @@
 // The run of a schedule file, for whoever prints it: every byte that is printed, event by event.
 //
-// A file is checked whole (`schedule_file::check`). If it is refused, `refused_file` is all that is printed; else `heading`, the line of
-// each event that has one, and `last_line`. proofs/Whole.antt shows that these are the bytes that the model prints for the file.
+// A file is checked whole (`schedule_file::check`). If it is refused, `refused_file` is all that is printed; else `heading`, the text of
+// each event of its `Run`, and `last_line`. proofs/Whole.antt shows that these are the bytes that the model prints for the file.
 
 #![tactic(auto)]
 
@@ -10,8 +10,6 @@ mod rows;
 mod run;
 mod text;
 
-pub use printed::{
-    answer_element, answer_number, heading, last_line, refusal_number, refused_file,
-};
-pub use run::{Event, Run, next_event};
+pub use printed::{heading, last_line, refused_file};
+pub use run::Run;
 pub use text::Text;

@@ -1,61 +1,29 @@
-// A printed line: a small fixed array with its length. No line of a run has more than 48 bytes, whatever its numbers.
+// A printed line, its line feed among its bytes. No line of a run has more than 48 bytes, whatever its numbers.
 
-ghost use Rattle.std.specs.Prelude.{◌≡◌};
+ghost use Rattle.std.specs.Prelude.{◌≡◌, ◌+◌, ◌≤◌, ◌++◌, length};
+ghost use Rattle.arrayvec.specs.ArrayVec.{array_vec_len};
 ghost use Rattle.model.specs.Printed.{decimal};
-ghost use Rattle.schedule.specs.Shown.{empty_text, pushed, pushed_all};
 
-#[derive(Clone, Copy)]
-pub struct Text {
-    pub bytes: [u8; 48],
-    pub len: usize,
-}
+use arrayvec::ArrayVec;
+use itoa::Buffer;
 
-pub fn empty_text() -> Text
-    ensures { result ≡ empty_text }
+pub type Text = ArrayVec<u8, 48>;
+
+// These bytes more, for which there must be room.
+pub fn put(text: &mut Text, bytes: &[u8])
+    requires { array_vec_len text.old + length bytes.now ≤ 48 }
+    ensures { text.new.items ≡ text.old.items ++ bytes.now }
 {
-    Text {
-        bytes: [0; 48],
-        len: 0,
-    }
-}
-
-// One byte more.
-#[tactic(auto, unfolding(crate::specs::Shown::pushed))]
-pub fn push(t: Text, b: u8) -> Text
-    ensures { result ≡ pushed t b }
-{
-    let at = t.len;
-    let mut bytes = t.bytes;
-    if at < 48 {
-        bytes[at] = b;
-        return Text {
-            bytes: bytes,
-            len: at + 1,
-        };
-    }
-    t
+    text.try_extend_from_slice(bytes).unwrap();
 }
 
 // The decimal digits of n.
-pub fn put_decimal(t: Text, n: u32) -> Text
-    ensures { result ≡ pushed_all t (decimal n) }
+#[tactic(auto, using(crate::specs::Digits::decimal_same))]
+pub fn put_decimal(text: &mut Text, n: u32)
+    requires { array_vec_len text.old + 10 ≤ 48 }
+    ensures digits { text.new.items ≡ text.old.items ++ decimal n }
+    ensures room { array_vec_len text.new ≤ array_vec_len text.old + 10 }
 {
-    if n < 10 {
-        return push(t, 48 + n as u8);
-    }
-    let front = put_decimal(t, n / 10);
-    push(front, 48 + (n % 10) as u8)
-}
-
-// All bytes of a slice.
-pub fn put(t: Text, bytes: &[u8]) -> Text
-    ensures { result ≡ pushed_all t bytes.now }
-{
-    let mut longer = t;
-    let mut i = 0;
-    while i < bytes.len() {
-        longer = push(longer, bytes[i]);
-        i += 1;
-    }
-    longer
+    let mut buffer = Buffer::new();
+    put(text, buffer.format(n).as_bytes());
 }

@@ -20,7 +20,7 @@ fn replay_file(rt: &(impl Files + Print), name: &[u8]) -> io::Result<()> {
     let Some(mut file) = opened(rt, name) else {
         return rt.println("cannot be opened");
     };
-    printer::replay_from(&mut file, &mut out)?;
+    let _ = printer::replay_from(&mut file, &mut out)?;
     Ok(())
 }
 

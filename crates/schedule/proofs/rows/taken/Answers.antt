@@ -1,12 +1,12 @@
--- One row more is counted, and no row is left at the end.
-use Rattle.std.proofs.Common.{arith}
-use Rattle.schedule.specs.Rows.{taken_more, taken_end}
+-- The chain counts the rows not free in the list.
+use Rattle.std.proofs.Common.{◌≡◌, ◌∙◌, ◌-◌, length, take, drop, arith, rules}
+use Rattle.std.specs.Prelude.{count_by}
+use Rattle.std.proofs.iter.runs.Made.{chains}
+use Rattle.schedule.specs.Rows.{is_taken, taken_counted}
 use Rattle.schedule.proofs.rows.taken.Goals as goal
 
-pub loop-i-preserved : goal.loop-i-preserved
-loop-i-preserved c =
-    let more = taken_more c.args.state.rows c.loop-i.i c.loop-i-test.true in
-    (omega arith, omega (arith, c.loop-i.invariant.1, more, c.taken_one-n.ensures.0))
-
 pub returns : goal.returns
-returns c = omega (arith, c.loop-i.invariant.1, taken_end c.args.state.rows c.loop-i.i c.loop-i-test.false)
+returns c =
+    let rows = c.args.state.now.rows in
+    let counted : c.count.result ≡ count_by is_taken (take (length rows - 2) (drop 2 rows)) = search (rules, chains) in
+    counted ∙ taken_counted rows (omega arith)
