@@ -4,12 +4,12 @@
 
 #![tactic(auto)]
 
+mod both;
 mod changed;
 mod lengths;
 mod published;
 mod random;
 mod show;
-mod tables;
 
 use std::env::{Env, FillError};
 use std::fs::Files;
@@ -31,11 +31,11 @@ fn show_published(rt: &(impl Env + Files + Print)) -> io::Result<()> {
 
 fn main(rt: HostRuntime) -> io::Result<()> {
     show_published(&rt)?;
-    random::show(&rt, 1, 12)?;
-    random::show(&rt, 2, 40)?;
-    random::show(&rt, 3, 4)?;
-    random::show(&rt, 4, 1000)?;
-    changed::show(&rt, 5)?;
-    changed::show(&rt, 6)?;
+    for (seed, keys) in [(1, 12), (2, 40), (3, 4), (4, 1000)] {
+        random::show(&rt, seed, keys)?;
+    }
+    for seed in [5, 6] {
+        changed::show(&rt, seed)?;
+    }
     lengths::show(&rt)
 }
