@@ -3,47 +3,38 @@
 
 ghost use Rattle.std.specs.Prelude.{◌≤◌};
 
-use crate::show;
-use crate::tables::{same_words, start, verdict_number};
-use model::{Called, Catalogue, Verdict};
+use model::{Catalogue, Refusal};
 use std::io;
 
-fn verdict(rt: &impl Print, name: &str, v: Verdict) -> io::Result<()> {
-    show::field(rt, name, verdict_number(v))
-}
-
-fn called(rt: &impl Print, name: &str, c: Called) -> io::Result<()> {
-    verdict(rt, name, c.verdict)
-}
-
-// Whether these are the empty catalogue's rows.
-fn is_empty(state: Catalogue) -> bool {
-    let t = start();
-    let mut words = [0u32; 512];
-    packed::pack(state, &mut words);
-    same_words(&words, &t.words)
+// 0, or the refusal's number.
+fn number(verdict: Result<(), Refusal>) -> u32 {
+    match verdict {
+        Ok(()) => 0,
+        Err(refusal) => u32::from(refusal),
+    }
 }
 
 // `before` has the same words.
 fn show_same(rt: &impl Print, words: &[u32], before: &[u32]) -> io::Result<()> {
-    if same_words(words, before) {
+    if words == before {
         rt.print(", words as they were")?;
     }
     Ok(())
 }
 
 fn show_calls(rt: &impl Print, words: &mut [u32]) -> io::Result<()> {
-    let empty = Catalogue::empty();
-    let workers = empty.workers;
+    let workers = Catalogue::empty().workers;
     let unpacked = packed::unpack(words, workers);
-    verdict(rt, ": unpack ", unpacked.verdict)?;
-    if is_empty(unpacked.state) {
+    print!(rt; ": unpack {}", number(unpacked.verdict))?;
+    if unpacked.state == Catalogue::empty() {
         rt.print(", empty")?;
     }
     let submitted = packed::submit(words, workers, 0, 2, 5, 50);
-    called(rt, ", submit ", submitted)?;
-    called(rt, ", step ", packed::step(words, workers, 0))?;
-    called(rt, ", step of worker 8 ", packed::step(words, workers, 8))
+    print!(rt; ", submit {}", number(submitted.verdict))?;
+    let stepped = packed::step(words, workers, 0);
+    print!(rt; ", step {}", number(stepped.verdict))?;
+    let stepped = packed::step(words, workers, 8);
+    print!(rt; ", step of worker 8 {}", number(stepped.verdict))
 }
 
 // The first n of these words.
@@ -55,17 +46,14 @@ fn show_first(rt: &impl Print, all: [u32; 516], n: usize) -> io::Result<()>
     show_calls(rt, &mut words[..n])?;
     show_same(rt, &words[..n], &all[..n])?;
     let packs = packed::pack(Catalogue::empty(), &mut words[..n]);
-    verdict(rt, ", pack ", packs)?;
+    print!(rt; ", pack {}", number(packs))?;
     show_same(rt, &words[..n], &all[..n])?;
     rt.println("")
 }
 
 pub fn show(rt: &impl Print) -> io::Result<()> {
-    let all = [1024u32; 516];
-    show_first(rt, all, 0)?;
-    show_first(rt, all, 4)?;
-    show_first(rt, all, 511)?;
-    show_first(rt, all, 512)?;
-    show_first(rt, all, 513)?;
-    show_first(rt, all, 516)
+    for n in [0, 4, 511, 512, 513, 516] {
+        show_first(rt, [1024; 516], n)?;
+    }
+    Ok(())
 }

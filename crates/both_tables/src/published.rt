@@ -1,25 +1,24 @@
 // A schedule file, run on both tables.
 
+use crate::both::Tables;
 use crate::show;
-use crate::tables::{Tables, called, start};
 use printer::read_full;
 use schedule_file::record_call;
 use std::fs::{File, Files};
 use std::io;
 
+// The records behind the three bytes of the heading, up to one that the file cuts off.
 fn run(file: &[u8]) -> Tables {
-    let mut t = start();
-    let mut at: usize = 3;
-    while at < file.len() {
-        let first = at + 1;
-        let n = usize::from(file[at]);
-        if file.len() - first < n {
-            return t;
-        }
-        t = called(t, record_call(file[at], &file[first..]));
-        at = first + n;
+    let mut tables = Tables::new();
+    let mut rest = file.get(3..).unwrap_or_default();
+    while let Some((n, record)) = rest.split_first() {
+        let Some(later) = record.get(usize::from(*n)..) else {
+            break;
+        };
+        tables.call(record_call(*n, record));
+        rest = later;
     }
-    t
+    tables
 }
 
 // The schedule of this name: its calls, and the words of the rows that are taken after the last.
@@ -30,8 +29,7 @@ pub fn show(rt: &(impl Files + Print), name: &str) -> io::Result<()> {
     };
     let mut buffer = [0u8; 1000];
     let n = read_full(&mut file, &mut buffer)?;
-    let t = run(&buffer[..n]);
-    rt.print(": ")?;
-    show::tables(rt, t)?;
-    show::rows(rt, t.words)
+    let tables = run(&buffer[..n]);
+    println!(rt; ": {tables}")?;
+    show::rows(rt, tables.words)
 }

@@ -13,7 +13,7 @@ returns-in-Some c =
     let cut = c.as_chunks.ensures in
     c.row_from.ensures
     ∙ chunk_row c.args.words.now c.as_chunks.result.0.now c.args.i c.in-Some.field-0.now c.requires cut.front
-        (omega (arith, found.3.0, cut.front_len, c.from.ensures)) (rw (← c.from.ensures) found.1)
+    (omega (arith, found.3.0, cut.front_len, c.from.ensures)) (rw (← c.from.ensures) found.1)
 
 pub returns-in-None : goal.returns-in-None
 returns-in-None c =

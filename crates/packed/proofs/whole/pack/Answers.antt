@@ -14,7 +14,7 @@ loop-i-preserved c =
     let before = c.loop-i.invariant in
     let number : length c.args.state.rows ≡ 128 = omega arith in
     more_packed c.loop-i.words c.loop-i.i _ c.loop-i-test.true before.size c.args.state.rows _ _ number refl before
-        c.store_row.ensures.0 c.store_row.ensures.1
+    c.store_row.ensures.0 c.store_row.ensures.1
 
 pub returns : goal.returns
 returns c =
