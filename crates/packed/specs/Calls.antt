@@ -1,59 +1,84 @@
--- What a call on words gives back, and the words after it: one law for each way out that reads the state for which the words stand.
-use Rattle.std.specs.Prelude.{if◌then◌else◌, ℕ, ◌≤◌, ◌≡◌, refl, Bool, true, false, List, set, Result, Ok, Err}
-use Rattle.std.proofs.Common.{le-ltb}
-use Rattle.model.specs.Packed.{packed, unpacked, packs_rows, state_of, OnWords, packed_call}
+-- What the code of a call on packed rows needs to know of its definition: one law for each way out.
+use Rattle.std.specs.Prelude.{if◌then◌else◌, ℕ, ◌≤◌, ◌<◌, ◌≡◌, refl, Bool, true, false, List, set, Result, Ok, Err}
+use Rattle.std.proofs.Common.{ap, sym, ◌∙◌, lt-ltb, le-ltb}
+use Rattle.model.specs.Step.{step, submit, step_worker}
 use Rattle.model.specs.Run.{call}
-use Rattle.model.specs.Step.{submit, step}
+use Rattle.model.specs.Printed.{call_worker}
 use Rattle.model.specs.Verdict.{Verdict}
 use Rattle.model.specs.WellFormed.{well_formed}
+use Rattle.model.specs.Packed.{packed, unpacked, packs_rows, state_of, packed_well, OnWords, packed_stepped, packed_call}
 use Rattle.model.specs.declared.Worker.{Worker}
 use Rattle.model.specs.declared.Catalogue.{Catalogue}
 use Rattle.model.specs.declared.Stepped.{Stepped}
 use Rattle.model.specs.declared.Called.{Called}
+use Rattle.model.specs.declared.Call.{Call}
 use Rattle.model.specs.declared.Call.TheVariants.{Submit, Step}
 use Rattle.model.specs.declared.Refusal.{Refusal}
-use Rattle.model.specs.declared.Refusal.TheVariants.{NotWellFormed}
+use Rattle.model.specs.declared.Refusal.TheVariants.{NoSuchWorker, NotWellFormed}
+use Rattle.packing.specs.WellFormedWords.{packed_well_told}
+use Rattle.packing.specs.PackedCalls.{ill_refused}
 use Rattle.kept.specs.Conditions.{contradiction}
-use Rattle.packing.specs.Tables.{packs_rows_lem}
 use Rattle.engine.specs.Steps.{StepsAs}
+use Rattle.packed.specs.Tables.{well_if_packs}
 
--- the state that words and workers stand for, if the words pack rows
-abbrev pub stands_for : List ℕ → List Worker → Result Catalogue Refusal
-stands_for words workers = if packs_rows words then Ok (state_of words workers) else Err NotWellFormed
-
-abbrev pub called : Verdict → List Worker → Called
-called v workers = record { verdict = v; workers = workers }
-
-abbrev pub on_words : Verdict → List Worker → List ℕ → OnWords
-on_words v workers words = record { called = called v workers; words = words }
+abbrev pub refused_call : Refusal → List Worker → Called
+refused_call r workers = record { verdict = Err r; workers = workers }
 
 -- what a call gives back, and the words after it
 abbrev pub Gives : OnWords → Called → List ℕ → Type 0
 Gives s r words = (r ≡ s.called) × (words ≡ s.words)
 
+told : {s : OnWords} {r : Called} {words : List ℕ} → record { called = r; words = words } ≡ s → Gives s r words
+told e = (ap (λ (s : OnWords). s.called) e, ap (λ (s : OnWords). s.words) e)
+
+module _ (words : List ℕ) (workers : List Worker) where
+  pub no_worker : (x : Call) → 7 < call_worker x → Gives (packed_call words workers x) (refused_call NoSuchWorker workers) words
+  unfolding packed_call
+  no_worker x h = rw (lt-ltb 7 (call_worker x) h) (refl, refl)
+
+  pub no_rows : (x : Call) → call_worker x ≤ 7 → packs_rows words ≡ false → Gives (packed_call words workers x) (refused_call NotWellFormed workers) words
+  unfolding packed_call
+  no_rows x h none = rw (le-ltb 7 (call_worker x) h, none) (refl, refl)
+
+  pub not_well : (x : Call) → call_worker x ≤ 7 → packed_well words workers ≡ false
+      → Gives (packed_call words workers x) (refused_call NotWellFormed workers) words
+  not_well x h ill = told (sym (rw (le-ltb 7 (call_worker x) h) at (ill_refused words workers ill x)))
+
+  pub submitted : (w code key element : ℕ) → w ≤ 7 → packs_rows words ≡ true
+      → packed_stepped (submit (state_of words workers) w code key element) ≡ packed_call words workers (Submit w code key element)
+  unfolding packed_call call
+  submitted w code key element h packs = rw (le-ltb 7 w h, packs)
+
+  pub stepped : (w : ℕ) → w ≤ 7 → packed_well words workers ≡ true
+      → packed_stepped (step_worker (state_of words workers) w) ≡ packed_call words workers (Step w)
+  unfolding packed_call call step
+  stepped w h well =
+      let parts = packed_well_told words workers well in
+      rw (le-ltb 7 w h, parts.0, parts.1)
+
+  -- a step of the rows for which the words stand, and which later words pack again
+  pub step_gives : (w : ℕ) (v : Verdict) (after : Worker) (later : List ℕ) → w ≤ 7 → packed_well words workers ≡ true
+      → StepsAs (unpacked words) workers w v after (unpacked later) → packed (unpacked later) ≡ later
+      → Gives (packed_call words workers (Step w)) (record { verdict = v; workers = set workers w after }) later
+  step_gives w v after later h well steps again = told (rw (← stepped w h well, ← steps, again))
+
+-- ---- The state for which words stand ----
+
+abbrev pub stands_for : List ℕ → List Worker → Result Catalogue Refusal
+stands_for words workers = if packs_rows words then Ok (state_of words workers) else Err NotWellFormed
+
 module _ (words : List ℕ) (workers : List Worker) (c : Catalogue) (stands : Ok c ≡ stands_for words workers) where
-  stood : (packs_rows words ≡ true) × (c ≡ state_of words workers)
+  pub stood : (packs_rows words ≡ true) × (c ≡ state_of words workers)
   stood = go (packs_rows words) stands
     where
       go : (b : Bool) → Ok c ≡ (if b then Ok (state_of words workers) else Err NotWellFormed) → (b ≡ true) × (c ≡ state_of words workers)
       go true h = (refl, cc)
       go false h = contradiction (cc)
 
-  again : packed (unpacked words) ≡ words
-  again = (packs_rows_lem words stood.0).again
+  pub stands_well : well_formed c ≡ packed_well words workers
+  stands_well = ap well_formed stood.1 ∙ well_if_packs words workers stood.0
 
-  module _ (w : ℕ) (small : w ≤ 7) where
-    pub submit_gives : (code key element : ℕ) (s : Stepped) → s ≡ submit c w code key element
-        → called s.verdict s.state.workers ≡ (packed_call words workers (Submit w code key element)).called
-    unfolding packed_call call
-    submit_gives code key element s made = rw (made, stood.1, le-ltb 7 w small, stood.0)
-
-    pub not_well : well_formed c ≡ false → on_words (Err NotWellFormed) workers words ≡ packed_call words workers (Step w)
-    unfolding packed_call call step
-    not_well ill = rw (le-ltb 7 w small, stood.0, rw stood.1 at ill, again)
-
-    pub step_gives : (v : Verdict) (after : Worker) (later : List ℕ) → well_formed c ≡ true
-        → StepsAs (unpacked words) workers w v after (unpacked later) → (packed (unpacked words) ≡ words → packed (unpacked later) ≡ later)
-        → on_words v (set workers w after) later ≡ packed_call words workers (Step w)
-    unfolding packed_call call step
-    step_gives v after later well steps sound = rw (le-ltb 7 w small, stood.0, rw stood.1 at well, ← steps, sound again)
+  pub submit_gives : (w code key element : ℕ) (s : Stepped) → w ≤ 7 → s ≡ submit c w code key element
+      → record { verdict = s.verdict; workers = s.state.workers } ≡ (packed_call words workers (Submit w code key element)).called
+  submit_gives w code key element s h made =
+      rw (made, stood.1) (ap (λ (o : OnWords). o.called) (submitted words workers w code key element h stood.0))

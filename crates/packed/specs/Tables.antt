@@ -1,6 +1,6 @@
 -- What the code over whole tables needs to know: the test of all rows is that of each four words, the rows read one by one are all rows, and
 -- the words of one row more.
-use Rattle.std.specs.Prelude.{ℕ, zero, suc, ◌+◌, ◌*◌, ◌/◌, ◌≤◌, ◌<◌, ◌≡◌, refl, Bool, false, ◌&&◌, List, [], ◌∷◌, ◌++◌, length, get_or, take, drop, Ok, Err}
+use Rattle.std.specs.Prelude.{ℕ, zero, suc, ◌+◌, ◌*◌, ◌/◌, ◌≤◌, ◌<◌, ◌≡◌, refl, Bool, true, false, ◌&&◌, List, [], ◌∷◌, ◌++◌, length, get_or, take, drop, Ok, Err}
 use Rattle.std.specs.List.{list_all}
 use Rattle.std.specs.Simd.{first_chunks}
 use Rattle.std.specs.Array.{IsFromFnResult, IsFromFnResultFrom}
@@ -10,10 +10,13 @@ use Rattle.std.proofs.Math.Seq.{length-take-le, take_at}
 use Rattle.std.proofs.lemmas.Bool.{cases_lt}
 use Rattle.std.proofs.lemmas.List.{ext_get_or}
 use Rattle.std.proofs.lemmas.List.Edits.{sets-eq}
-use Rattle.model.specs.State.{row_at, free_row}
-use Rattle.model.specs.Packed.{succ_word, rest_word, packed, unpacked, packs_row, packs_each, packs_rows, pack_verdict, pack_into}
+use Rattle.model.specs.State.{row_at, free_row, empty_catalogue}
+use Rattle.model.specs.Step.{refuse, accept}
+use Rattle.model.specs.Packed.{succ_word, rest_word, packed, unpacked, packs_row, packs_each, packs_rows, state_of, packed_well, pack_verdict, pack_into, unpack}
 use Rattle.model.specs.Verdict.{Verdict}
+use Rattle.model.specs.WellFormed.{well_formed}
 use Rattle.model.specs.declared.Row.{Row}
+use Rattle.model.specs.declared.Worker.{Worker}
 use Rattle.model.specs.declared.Catalogue.{Catalogue}
 use Rattle.model.specs.declared.Refusal.TheVariants.{NotWellFormed}
 use Rattle.kept.specs.Conditions.{contradiction}
@@ -23,10 +26,11 @@ use Rattle.packing.specs.Stored.{word_at, stored_row, row_stored_length}
 
 -- ---- The test ----
 
+-- the test of four words is that of their last two
 abbrev pub packs_four : List ℕ → Bool
 packs_four four = packs_row (word_at four 2) (word_at four 3)
 
-each_packs : (n : ℕ) (words : List ℕ) → length words ≡ n * 4 → list_all packs_four (first_chunks 4 n words) ≡ packs_each words
+pub each_packs : (n : ℕ) (words : List ℕ) → length words ≡ n * 4 → list_all packs_four (first_chunks 4 n words) ≡ packs_each words
 unfolding packs_each
 each_packs zero [] size = refl
 each_packs (suc n) [] size = absurd (omega arith)
@@ -36,11 +40,18 @@ each_packs n (a ∷ b ∷ c ∷ []) size = absurd (omega arith)
 each_packs zero (k ∷ e ∷ s ∷ r ∷ words) size = absurd (omega arith)
 each_packs (suc n) (k ∷ e ∷ s ∷ r ∷ words) size = ap (λ (b : Bool). packs_row s r && b) (each_packs n words (omega arith))
 
+pub sized_rows : (words : List ℕ) (b : Bool) → length words ≡ 512 → packs_each words ≡ b → b ≡ packs_rows words
+unfolding packs_rows
+sized_rows words b size h = rw (eq-eqb (length words) 512 size) (sym h)
+
+pub unsized_rows : (words : List ℕ) → (length words ≡ 512 → ⊥) → false ≡ packs_rows words
+unfolding packs_rows
+unsized_rows words h = rw (ne_eqb (length words) 512 h)
+
 pub all_pack : (words : List ℕ) (chunks : List (List ℕ)) → length words ≡ 512 → chunks ≡ first_chunks 4 (length words / 4) words
     → list_all packs_four chunks ≡ packs_rows words
-unfolding packs_rows
 all_pack words chunks size cut =
-    rw (eq-eqb (length words) 512 size) (ap (list_all packs_four) cut ∙ each_packs (length words / 4) words (omega arith))
+    sized_rows words _ size (sym (ap (list_all packs_four) cut ∙ each_packs (length words / 4) words (omega arith)))
 
 -- ---- Rows read from words ----
 
@@ -62,10 +73,6 @@ rows_read g f words rows size made says =
     let long = rows_number 128 words size in
     ext_get_or free_row rows (unpacked words) (omega (arith, made.long))
     (λ i h. made_each g (λ x y. y ≡ row_at (unpacked words) x) f says rows 0 128 made.each i free_row (omega arith) (omega (arith, made.long)))
-
-pub no_table : (words : List ℕ) → (length words ≡ 512 → ⊥) → packs_rows words ≡ false
-unfolding packs_rows
-no_table words h = rw (ne_eqb (length words) 512 h)
 
 -- ---- Rows packed into words ----
 
@@ -140,3 +147,22 @@ none_packed c words h = record {
   words = rw (ne_eqb (length words) 512 h);
   rows = λ e. contradiction (cc);
 }
+
+-- ---- What the tests say of the definitions ----
+
+module _ (words : List ℕ) (workers : List Worker) where
+  pub well_if_packs : packs_rows words ≡ true → well_formed (state_of words workers) ≡ packed_well words workers
+  unfolding packed_well
+  well_if_packs h = rw h
+
+  pub not_well_if_none : packs_rows words ≡ false → false ≡ packed_well words workers
+  unfolding packed_well
+  not_well_if_none h = rw h
+
+  pub unpacks : packs_rows words ≡ true → accept (state_of words workers) ≡ unpack words workers
+  unfolding unpack
+  unpacks h = rw h
+
+  pub unpacks_nothing : packs_rows words ≡ false → refuse NotWellFormed empty_catalogue ≡ unpack words workers
+  unfolding unpack
+  unpacks_nothing h = rw h

@@ -8,21 +8,19 @@ use crate::whole::state_of;
 use model::{Call, Called, Catalogue, Refusal, Stepped, Worker};
 use well_formed::well_formed;
 
-// Step in place, refusals 1, 4, 3, 5. Refused, it leaves every word.
+// Step in place, refusals 1, 4, 3, 5.
 #[tactic(auto, unfolding(model::specs::Packed::packed_call))]
 fn take_step(
     words: &mut [u32],
     workers: &mut [Worker; Catalogue::WORKERS],
     worker: u32,
 ) -> Result<(), Refusal>
-    ensures { record { called = record { verdict = result; workers = workers.new }; words = words.new } ≡ packed_call words.old workers.old (Step worker) }
+    ensures { (record { verdict = result; workers = workers.new } ≡ (packed_call words.old workers.old (Step worker)).called) × (words.new ≡ (packed_call words.old workers.old (Step worker)).words) }
 {
     if 7 < worker {
         return Err(Refusal::NoSuchWorker);
     }
-    let Some(table) = words.as_mut_array::<512>() else {
-        return Err(Refusal::NotWellFormed);
-    };
+    let table = words.as_mut_array::<512>().ok_or(Refusal::NotWellFormed)?;
     if !well_formed(state_of(table, *workers)?) {
         return Err(Refusal::NotWellFormed);
     }
@@ -51,6 +49,7 @@ fn begin(
     verdict
 }
 
+// Refused, it leaves every word.
 pub fn step(words: &mut [u32], workers: [Worker; Catalogue::WORKERS], worker: u32) -> Called
     ensures { (result ≡ (packed_call words.old workers (Step worker)).called) × (words.new ≡ (packed_call words.old workers (Step worker)).words) }
 {
@@ -74,6 +73,7 @@ pub fn submit(
     Called { verdict, workers }
 }
 
+// Any call. A submit leaves every word.
 pub fn call(words: &mut [u32], workers: [Worker; Catalogue::WORKERS], made: Call) -> Called
     ensures { (result ≡ (packed_call words.old workers made).called) × (words.new ≡ (packed_call words.old workers made).words) }
 {

@@ -11,7 +11,6 @@ use std::array;
 use tables::Table;
 
 // Whether the words are the packing of 128 rows.
-#[tactic(auto, unfolding(model::specs::Packed::packs_rows))]
 fn packs_rows(words: &[u32; 512]) -> bool
     ensures { result ≡ packs_rows words.now }
 {
@@ -23,9 +22,7 @@ fn packs_rows(words: &[u32; 512]) -> bool
 pub fn state_of(words: &[u32], workers: [Worker; Catalogue::WORKERS]) -> Result<Catalogue, Refusal>
     ensures { result ≡ stands_for words.now workers }
 {
-    let Some(table) = words.as_array::<512>() else {
-        return Err(Refusal::NotWellFormed);
-    };
+    let table = words.as_array::<512>().ok_or(Refusal::NotWellFormed)?;
     if !packs_rows(table) {
         return Err(Refusal::NotWellFormed);
     }

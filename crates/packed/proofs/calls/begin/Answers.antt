@@ -5,4 +5,4 @@ use Rattle.packed.proofs.calls.begin.Goals as goal
 pub returns : goal.returns
 returns c =
     let a = c.args in
-    submit_gives a.words.now a.workers.now c.in_ok-state.state c.in_ok-state.ensures a.worker c.if-worker-gt7.false a.code a.key a.element _ c.submit-verdict.ensures
+    submit_gives a.words.now a.workers.now c.in_ok-state.state c.in_ok-state.ensures a.worker a.code a.key a.element _ c.if-worker-gt7.false c.submit-verdict.ensures

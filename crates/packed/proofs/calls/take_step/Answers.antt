@@ -1,25 +1,35 @@
 -- 4 for words that pack no rows or a state that is not well formed, else the step of the worker's record, put back in its place.
-use Rattle.std.proofs.Common.{◌<◌, sym, length, arith, le-ltb}
+use Rattle.std.proofs.Common.{◌<◌, ◌≡◌, ◌∙◌, sym, length, arith, rules, Err}
 use Rattle.std.proofs.lemmas.List.{get_or_default}
-use Rattle.model.specs.Packed.{packed_call}
-use Rattle.packed.specs.Tables.{no_table}
-use Rattle.packed.specs.Calls.{not_well, step_gives}
+use Rattle.std.specs.Array.{IsWholeChunk}
+use Rattle.model.specs.declared.Call.TheVariants.{Step}
+use Rattle.model.specs.declared.Refusal.TheVariants.{NotWellFormed}
+use Rattle.packing.specs.Tables.{packs_rows_lem}
+use Rattle.packed.specs.Tables.{unsized_rows}
+use Rattle.packed.specs.Calls.{no_rows, not_well, step_gives, stood, stands_well}
 use Rattle.packed.proofs.calls.take_step.Goals as goal
 
-pub returns-in_default : goal.returns-in_default
-unfolding packed_call
-returns-in_default c = simp (le-ltb 7 c.args.worker c.if-worker-gt7.false, no_table c.args.words.now c.in_default.ensures.cases)
+pub returns-in_err-table : goal.returns-in_err-table
+returns-in_err-table c =
+    let a = c.args in
+    let long : length a.words.now ≡ 512 → ⊥ = search rules in
+    let refused : c.from_residual.result ≡ Err NotWellFormed = search rules in
+    rw refused (no_rows a.words.now a.workers.now (Step a.worker) c.if-worker-gt7.false (sym (unsized_rows a.words.now long)))
 
 pub returns-then-not-well_formed : goal.returns-then-not-well_formed
 returns-then-not-well_formed c =
-    rw (← c.in-Some.ensures.cases.same)
-    (not_well c.in-Some.table.now c.args.workers.now _ c.in_ok-state_of.ensures c.args.worker c.if-worker-gt7.false (sym c.if-not-well_formed.ensures))
+    let a = c.args in
+    let whole : IsWholeChunk a.words.now c.in_ok-table.table.now 512 = search rules in
+    let ill = sym (stands_well c.in_ok-table.table.now a.workers.now _ c.in_ok-state_of.ensures) ∙ sym c.if-not-well_formed.ensures in
+    rw (← whole.same) (not_well c.in_ok-table.table.now a.workers.now (Step a.worker) c.if-worker-gt7.false ill)
 
 pub returns : goal.returns
 returns c =
     let a = c.args in
+    let whole : IsWholeChunk a.words.now c.in_ok-table.table.now 512 = search rules in
     let inside : a.worker < length a.workers.now = omega arith in
     let steps = c.step_worker.ensures.step a.workers.now (get_or_default a.workers.now a.worker _ _ inside) in
-    rw (← c.in-Some.ensures.cases.same)
-    (step_gives c.in-Some.table.now a.workers.now _ c.in_ok-state_of.ensures a.worker c.if-worker-gt7.false _ _ _ (sym c.if-not-well_formed.ensures) steps
-    c.step_worker.ensures.sound)
+    let well = sym (stands_well c.in_ok-table.table.now a.workers.now _ c.in_ok-state_of.ensures) ∙ sym c.if-not-well_formed.ensures in
+    let packs = (stood c.in_ok-table.table.now a.workers.now _ c.in_ok-state_of.ensures).0 in
+    let again = c.step_worker.ensures.sound (packs_rows_lem c.in_ok-table.table.now packs).again in
+    rw (← whole.same) (step_gives c.in_ok-table.table.now a.workers.now a.worker _ _ _ c.if-worker-gt7.false well steps again)
