@@ -15,7 +15,8 @@ use std::env::{Env, FillError};
 use std::fs::Files;
 use std::io;
 
-// The schedules that the arguments name. A name that is no text of at most 100 bytes stands as an empty one, which no file has.
+// The schedules that the arguments name. A name that is no text of at most 100 bytes stands as an empty one, which no file has; `env::args`
+// would give a long one whole.
 fn show_published(rt: &(impl Env + Files + Print)) -> io::Result<()> {
     let mut name = [0u8; 100];
     for i in 1..usize::MAX {

@@ -1,4 +1,5 @@
-// Submit and step: the refusals in document 01's order, and what an accepted call does.
+// Submit and step: the refusals in document 01's order, and what an accepted call does. A worker's number is cast where it is known to be
+// below 8: `try_from` would have an error that cannot come.
 
 ghost use Rattle.std.specs.Prelude.{◌≡◌, ◌<◌, OnOk};
 ghost use Rattle.model.specs.Step.{step_worker, step, submit};

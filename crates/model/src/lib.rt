@@ -48,6 +48,7 @@ pub enum Answer {
     Full,
 }
 
+// Written out: an answer with an element has no discriminant to read, as a refusal has.
 impl Answer {
     #[tactic(auto, unfolding(crate::specs::Numbers::answer_number))]
     pub fn number(self) -> u32

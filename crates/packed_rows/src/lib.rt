@@ -68,6 +68,7 @@ fn succ_word(succ: Succ) -> u32
     u32::from(succ.right) * 4 + u32::from(succ.mark) * 2 + u32::from(succ.flag)
 }
 
+// The layout's own numbers (`standing_number` of the model): a held row's is two above its worker's.
 fn standing_number(standing: Standing) -> u32
     ensures { (result ≡ standing_number standing) × (result < 258) }
 {
