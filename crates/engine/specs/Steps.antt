@@ -1,12 +1,12 @@
 -- What the code of a step promises, and one law for each way out.
-use Rattle.std.specs.Prelude.{if◌then◌else◌, ℕ, ◌≡◌, refl, Bool, true, false, List, length, set}
+use Rattle.std.specs.Prelude.{ℕ, ◌≡◌, refl, true, false, List, length, set}
 use Rattle.std.specs.Prelude.{Ok, Err}
 use Rattle.std.proofs.Common.{length-set}
 use Rattle.std.proofs.lemmas.List.{set-get_or}
 use Rattle.model.specs.Verdict.{Verdict}
 use Rattle.model.specs.State.{worker_at, idle}
-use Rattle.model.specs.Step.{refuse, accept, effect_of, written, worker_after, ninth_help, applied, step_worker}
-use Rattle.model.specs.Turn.{accepted}
+use Rattle.model.specs.Step.{effect_of, written, worker_after, ninth_help, applied, step_worker}
+use Rattle.model.proofs.Choices.{if_both}
 use Rattle.model.specs.declared.Row.{Row}
 use Rattle.model.specs.declared.Worker.{Worker}
 use Rattle.model.specs.declared.Effect.{Effect}
@@ -38,35 +38,12 @@ module _ (rows : List Row) (workers : List Worker) (w : ℕ) (k : Worker) (its :
     unfolding step_worker applied
     step_moves later after n r a = simp (its, busy, ← acts, n, r, a)
 
-kept_either_way : (n : ℕ) (b : Bool) (x y : Stepped) → length x.state.workers ≡ n → length y.state.workers ≡ n → length (if b then x else y).state.workers ≡ n
-kept_either_way n true x y p q = p
-kept_either_way n false x y p q = q
-
 -- a step leaves as many workers as there were
 pub workers_kept : (c : Catalogue) (w : ℕ) → length (step_worker c w).state.workers ≡ length c.workers
 unfolding step_worker applied
 workers_kept c w =
     let k = worker_at c.workers w in
     let e = effect_of c.rows w k in
-    let moved = accept (record { rows = written c.rows e.write; workers = set c.workers w (worker_after k e) }) in
-    kept_either_way _ (idle k.line) (refuse WorkerIdle c) (applied c w k e) refl
-    (kept_either_way _ (ninth_help k.count e.stack) (refuse NinthHelp c) moved refl
-    (length-set c.workers w (worker_after k e)))
-
--- ---- A refused step ----
-
-Stays : Catalogue → Stepped → Type 0
-Stays c s = accepted s.verdict ≡ false → s.state ≡ c
-
-stays_either_way : (c : Catalogue) (b : Bool) (x y : Stepped) → Stays c x → Stays c y → Stays c (if b then x else y)
-stays_either_way c true x y p q = p
-stays_either_way c false x y p q = q
-
-pub refused_stays : (c : Catalogue) (w : ℕ) → accepted (step_worker c w).verdict ≡ false → (step_worker c w).state ≡ c
-unfolding step_worker applied Stays
-refused_stays c w =
-    let k = worker_at c.workers w in
-    let e = effect_of c.rows w k in
-    let moved = accept (record { rows = written c.rows e.write; workers = set c.workers w (worker_after k e) }) in
-    stays_either_way c (idle k.line) (refuse WorkerIdle c) (applied c w k e) (λ _. refl)
-    (stays_either_way c (ninth_help k.count e.stack) (refuse NinthHelp c) moved (λ _. refl) (λ a. cc))
+    let as_many : Stepped → Type 0 = λ s. length s.state.workers ≡ length c.workers in
+    if_both as_many (idle k.line) refl
+    (if_both as_many (ninth_help k.count e.stack) refl (length-set c.workers w (worker_after k e)))

@@ -1,6 +1,6 @@
 // One step of one worker, of a state that is known to be well formed: on any table of rows, and the worker's record.
 
-ghost use Rattle.std.specs.Prelude.{◌≡◌, false, List};
+ghost use Rattle.std.specs.Prelude.{◌≡◌, false, List, OnErr};
 ghost use Rattle.model.specs.State.{worker_at};
 ghost use Rattle.model.specs.Step.{effect_of, written, stacked, worker_after, ninth_help};
 ghost use Rattle.model.specs.declared.Worker.{Worker};
@@ -77,6 +77,7 @@ fn store<T: Table>(table: &mut T, write: Write)
 pub fn step_worker<T: Table>(table: &mut T, worker: &mut Worker, me: u8) -> Result<(), Refusal>
     ensures step { (workers : List Worker) → worker_at workers me ≡ worker.old → StepsAs (T.rows table.old) workers me result worker.new (T.rows table.new) }
     ensures sound { T.IsSound table.old → T.IsSound table.new }
+    ensures refused { OnErr result ((table.new ≡ table.old) × (worker.new ≡ worker.old)) }
 {
     if is_idle(worker.line) {
         return Err(Refusal::WorkerIdle);

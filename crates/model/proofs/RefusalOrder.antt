@@ -22,7 +22,7 @@ infix 70 ◌given_when◌
 pub data Ground : Type 1 where
   ◌given_when◌ : Refusal → Type 0 → Ground
 
--- this verdict is the first refusal of the list whose condition holds; `Accepted` if no condition holds
+-- this verdict is the first refusal of the list whose condition holds; `Ok` if no condition holds
 pub data First : List Ground → Verdict → Type 1 where
   no_ground : First [] (Ok tt)
   this_one : {r : Refusal} {P : Type 0} {rest : List Ground} → P → First (r given_when P ∷ rest) (Err r)

@@ -28,7 +28,7 @@ unfolding applied
 applied_unchanged c w k e =
     if_both (Unchanged c) (ninth_help k.count e.stack) (refused_unchanged _ c) (accepted_unchanged c _)
 
-step_worker_unchanged : (c : Catalogue) (w : ℕ) → Unchanged c (step_worker c w)
+pub step_worker_unchanged : (c : Catalogue) (w : ℕ) → Unchanged c (step_worker c w)
 unfolding step_worker
 step_worker_unchanged c w =
     if_both (Unchanged c) (idle (worker_at c.workers w).line) (refused_unchanged _ c) (applied_unchanged c w _ _)

@@ -40,10 +40,10 @@ through_each : (p : ℕ → Bool) (i n : ℕ) → through p i n ≡ true → (j 
 unfolding through
 through_each p i zero h j low high = absurd (omega arith)
 through_each p i (suc n) h j low high =
-    let and_parts = and_parts (p i) (through p (suc i) n) h in
+    let parts = and_parts (p i) (through p (suc i) n) h in
     elim (ℕ_discrete j i) [
-      | yes e ↦ ap p e ∙ and_parts.0
-      | no e ↦ through_each p (suc i) n and_parts.1 j (omega arith) (omega arith)
+      | yes e ↦ ap p e ∙ parts.0
+      | no e ↦ through_each p (suc i) n parts.1 j (omega arith) (omega arith)
     ]
 
 -- ---- A run goes on ----

@@ -1,4 +1,5 @@
-// Submit and step on packed rows, for every words, workers and numbers. A submit writes no row, so its words are lent to be read only.
+// Submit and step on packed rows, for every words, workers and numbers. A submit writes no row, so its words are lent to be read only. They
+// are no calls of `engine` on another table: what they refuse first is words that pack no rows, as the model's `packed_call` does.
 
 ghost use Rattle.std.specs.Prelude.{◌≡◌};
 ghost use Rattle.model.specs.Packed.{packed_call};

@@ -45,7 +45,7 @@ pub fn pack(state: Catalogue, words: &mut [u32]) -> Result<(), Refusal>
     Ok(())
 }
 
-// Words that pack no rows are refused with 4, and the catalogue is the empty one.
+// Words that pack no rows are refused with 4, and the catalogue is the empty one: no `Result`, as the model's `unpack` says so.
 #[tactic(auto, unfolding(model::specs::Packed::unpack))]
 pub fn unpack(words: &[u32], workers: [Worker; Catalogue::WORKERS]) -> Stepped
     ensures { result ≡ unpack words.now workers }
