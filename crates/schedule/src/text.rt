@@ -1,4 +1,5 @@
-// A printed line, its line feed among its bytes. No line of a run has more than 48 bytes, whatever its numbers.
+// A printed line, its line feed among its bytes. No line of a run has more than 48 bytes, whatever its numbers. It is put together part by
+// part: what `write!` writes is said only where it gives Ok, and no clause says that it does.
 
 ghost use Rattle.std.specs.Prelude.{◌≡◌, ◌+◌, ◌≤◌, ◌++◌, length};
 ghost use Rattle.arrayvec.specs.ArrayVec.{array_vec_len};

@@ -24,7 +24,8 @@ fn replay_file(rt: &(impl Files + Print), name: &[u8]) -> io::Result<()> {
     Ok(())
 }
 
-// The files that the arguments name. A name of more than 100 bytes stands as an empty one, which no file has; `env::args` would give it whole.
+// The files that the arguments name, each read into the same array, since `env::args` takes memory. A name of more than 100 bytes stands as
+// an empty one, which no file has.
 fn main(rt: HostRuntime) -> io::Result<()> {
     let mut name = [0u8; 100];
     for i in 1..usize::MAX {
