@@ -10,7 +10,7 @@ use Rattle.model.proofs.Choices.{if_both, if_known}
 use Rattle.model.specs.WellFormed.{well_formed}
 use Rattle.model.specs.Step.{step_worker, with_worker}
 use Rattle.model.specs.Turn.{accepted, turn_from, turn_of, turn, refuse_turn}
-use Rattle.model.proofs.TurnCount.{Steps, no_step, one_more, Stopped, spent, finished, ninth, unchecked, turn_from_counts}
+use Rattle.model.proofs.TurnCount.{Steps, no_step, one_more, Stopped, spent, finished, ninth, unchecked, accepted_true, turn_from_counts}
 use Rattle.model.proofs.RefusalOrder.{◌given_when◌, First, no_ground, this_one, a_later, IsIdle, IsBusy, busy_grounds, MeetsNinth, turn_grounds}
 use Rattle.model.proofs.RefusedCalls.{by_test, test, clash, above, not_above, step_worker_order}
 use Rattle.model.specs.declared.Worker.{Worker}
@@ -52,10 +52,6 @@ module _ (w : ℕ) (c : Catalogue) where
         → First (NinthHelp given_when MeetsNinth w (suc left) c ∷ []) v
     one_further (this_one m) = this_one (forth m)
     one_further (a_later none no_ground) = a_later (λ (m : MeetsNinth w (suc left) c). none (back_of_five m.2 m.3 m.4)) no_ground
-
-accepted_true : (v : Verdict) → accepted v ≡ true → v ≡ Ok tt
-accepted_true (Ok tt) e = refl
-accepted_true (Err r) e = cc
 
 turn_from_order : (w left n : ℕ) (c : Catalogue) → First (NinthHelp given_when MeetsNinth w left c ∷ []) (turn_from w left n c).verdict
 unfolding turn_from

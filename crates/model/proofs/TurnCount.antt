@@ -56,7 +56,7 @@ busy_only_ninth : (c : Catalogue) (w : ℕ) → idle (worker_at c.workers w).lin
 unfolding step_worker
 busy_only_ninth c w busy = rw busy (applied_only_ninth c w (worker_at c.workers w))
 
-accepted_true : (v : Verdict) → accepted v ≡ true → v ≡ Ok tt
+pub accepted_true : (v : Verdict) → accepted v ≡ true → v ≡ Ok tt
 accepted_true (Ok tt) e = refl
 accepted_true (Err r) e = cc
 
