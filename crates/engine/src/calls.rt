@@ -1,13 +1,13 @@
 // Submit and step: the refusals in document 01's order, and what an accepted call does. A worker's number is cast where it is known to be
 // below 8: `try_from` would have an error that cannot come.
 
-ghost use Rattle.std.specs.Prelude.{◌≡◌, ◌<◌, OnOk};
+ghost use Rattle.std.specs.Prelude.{◌≡◌, ◌<◌};
 ghost use Rattle.model.specs.Step.{step_worker, step, submit};
 ghost use Rattle.model.specs.Run.{call};
 
 use crate::steps;
 use accesses::{Request, first_line, is_idle};
-use model::{Call, Catalogue, Refusal, Stepped, Verdict, fresh_worker};
+use model::{Call, Catalogue, Refusal, Stepped, fresh_worker};
 use well_formed::well_formed;
 
 // A step of a worker of a state that is known to be well formed.

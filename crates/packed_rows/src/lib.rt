@@ -3,7 +3,7 @@
 
 #![tactic(auto)]
 
-ghost use Rattle.std.specs.Prelude.{◌<◌, ◌≤◌, ◌≡◌, length};
+ghost use Rattle.std.specs.Prelude.{◌<◌, ◌≡◌, length};
 ghost use Rattle.model.specs.State.{row_at};
 ghost use Rattle.model.specs.Packed.{succ_word, standing_number, rest_word, succ_from, standing_from, row_from, unpacked, packs_row};
 ghost use Rattle.packing.specs.OneRow.{Bytes};

@@ -1,9 +1,8 @@
 // Insert, figure 5.
 
-ghost use Rattle.std.specs.Prelude.{◌≡◌, List, length, set};
+ghost use Rattle.std.specs.Prelude.{◌≡◌, set};
 ghost use Rattle.model.specs.State.{row_at};
 ghost use Rattle.model.specs.Insert.{insert_2, insert_20, insert_4, insert_6, insert_15, linked_row, insert_10_11, insert_19, insert_17, insert_18, insert_line};
-ghost use Rattle.model.specs.declared.Row.{Row};
 
 use accesses::{
     call_help_flagged, call_search_from, finish, flagged_only, go, go_writing, has_key,
