@@ -1,15 +1,12 @@
 -- What the code of a call on packed rows needs to know of its definition: one law for each way out.
-use Rattle.std.specs.Prelude.{if◌then◌else◌, ℕ, ◌≤◌, ◌<◌, ◌≡◌, refl, Bool, true, false, List, set, Result, Ok, Err}
-use Rattle.std.proofs.Common.{ap, sym, ◌∙◌, lt-ltb, le-ltb}
+use Rattle.std.specs.Prelude.{ℕ, ◌≤◌, ◌<◌, ◌≡◌, refl, true, false, List, set, Err}
+use Rattle.std.proofs.Common.{ap, sym, lt-ltb, le-ltb}
 use Rattle.model.specs.Step.{step, submit, step_worker}
 use Rattle.model.specs.Run.{call}
 use Rattle.model.specs.Printed.{call_worker}
 use Rattle.model.specs.Verdict.{Verdict}
-use Rattle.model.specs.WellFormed.{well_formed}
 use Rattle.model.specs.Packed.{packed, unpacked, packs_rows, state_of, packed_well, OnWords, packed_stepped, packed_call}
 use Rattle.model.specs.declared.Worker.{Worker}
-use Rattle.model.specs.declared.Catalogue.{Catalogue}
-use Rattle.model.specs.declared.Stepped.{Stepped}
 use Rattle.model.specs.declared.Called.{Called}
 use Rattle.model.specs.declared.Call.{Call}
 use Rattle.model.specs.declared.Call.TheVariants.{Submit, Step}
@@ -17,9 +14,7 @@ use Rattle.model.specs.declared.Refusal.{Refusal}
 use Rattle.model.specs.declared.Refusal.TheVariants.{NoSuchWorker, NotWellFormed}
 use Rattle.packing.specs.WellFormedWords.{packed_well_told}
 use Rattle.packing.specs.PackedCalls.{ill_refused}
-use Rattle.kept.specs.Conditions.{contradiction}
 use Rattle.engine.specs.Steps.{StepsAs}
-use Rattle.packed.specs.Tables.{well_if_packs}
 
 abbrev pub refused_call : Refusal → List Worker → Called
 refused_call r workers = record { verdict = Err r; workers = workers }
@@ -61,24 +56,3 @@ module _ (words : List ℕ) (workers : List Worker) where
       → StepsAs (unpacked words) workers w v after (unpacked later) → packed (unpacked later) ≡ later
       → Gives (packed_call words workers (Step w)) (record { verdict = v; workers = set workers w after }) later
   step_gives w v after later h well steps again = told (rw (← stepped w h well, ← steps, again))
-
--- ---- The state for which words stand ----
-
-abbrev pub stands_for : List ℕ → List Worker → Result Catalogue Refusal
-stands_for words workers = if packs_rows words then Ok (state_of words workers) else Err NotWellFormed
-
-module _ (words : List ℕ) (workers : List Worker) (c : Catalogue) (stands : Ok c ≡ stands_for words workers) where
-  pub stood : (packs_rows words ≡ true) × (c ≡ state_of words workers)
-  stood = go (packs_rows words) stands
-    where
-      go : (b : Bool) → Ok c ≡ (if b then Ok (state_of words workers) else Err NotWellFormed) → (b ≡ true) × (c ≡ state_of words workers)
-      go true h = (refl, cc)
-      go false h = contradiction (cc)
-
-  pub stands_well : well_formed c ≡ packed_well words workers
-  stands_well = ap well_formed stood.1 ∙ well_if_packs words workers stood.0
-
-  pub submit_gives : (w code key element : ℕ) (s : Stepped) → w ≤ 7 → s ≡ submit c w code key element
-      → record { verdict = s.verdict; workers = s.state.workers } ≡ (packed_call words workers (Submit w code key element)).called
-  submit_gives w code key element s h made =
-      rw (made, stood.1) (ap (λ (o : OnWords). o.called) (submitted words workers w code key element h stood.0))

@@ -1,10 +1,12 @@
 -- What the code over whole tables needs to know: the test of all rows is that of each four words, the rows read one by one are all rows, and
 -- the words of one row more.
-use Rattle.std.specs.Prelude.{ℕ, zero, suc, ◌+◌, ◌*◌, ◌/◌, ◌≤◌, ◌<◌, ◌≡◌, refl, Bool, true, false, ◌&&◌, List, [], ◌∷◌, ◌++◌, length, get_or, take, drop, Ok, Err}
+use Rattle.std.specs.Prelude.{ℕ, zero, suc, ◌+◌, ◌*◌, ◌/◌, ◌≤◌, ◌<◌, ◌≡◌, refl, Bool, true, false, ◌&&◌, List, [], ◌∷◌, ◌++◌, length, get_or, take, drop, Option, MatchOption, Ok, Err}
+use Rattle.std.specs.Bool.{then_some}
 use Rattle.std.specs.List.{list_all}
 use Rattle.std.specs.Simd.{first_chunks}
 use Rattle.std.specs.Array.{IsFromFnResult, IsFromFnResultFrom}
 use denote.Param.Members.{Mut, Called}
+use denote.Ref.{Bor}
 use Rattle.std.proofs.Common.{inl, inr, ap, sym, ◌∙◌, arith, add-one, take-suc, take_all, length-append, eq-eqb, ne_eqb}
 use Rattle.std.proofs.Math.Seq.{length-take-le, take_at}
 use Rattle.std.proofs.lemmas.Bool.{cases_lt}
@@ -52,6 +54,14 @@ pub all_pack : (words : List ℕ) (chunks : List (List ℕ)) → length words �
     → list_all packs_four chunks ≡ packs_rows words
 all_pack words chunks size cut =
     sized_rows words _ size (sym (ap (list_all packs_four) cut ∙ each_packs (length words / 4) words (omega arith)))
+
+-- the words as a table, if they pack rows
+abbrev pub PackedTable : List ℕ → Option (Bor (List ℕ)) → Type 0
+PackedTable words r = MatchOption r (packs_rows words ≡ false) (λ table. (packs_rows words ≡ true) × (table.now ≡ words))
+
+pub table_packs : (words : List ℕ) (table : Bor (List ℕ)) (b : Bool) → table.now ≡ words → b ≡ packs_rows table.now → PackedTable words (then_some b table)
+table_packs words table true same told = (sym (told ∙ ap packs_rows same), same)
+table_packs words table false same told = sym (told ∙ ap packs_rows same)
 
 -- ---- Rows read from words ----
 

@@ -5,9 +5,8 @@ ghost use Rattle.std.specs.Prelude.{◌≡◌};
 ghost use Rattle.model.specs.Packed.{packed_call};
 ghost use Rattle.model.specs.declared.Call.TheVariants.{Submit, Step};
 
-use crate::whole::state_of;
-use model::{Call, Called, Catalogue, Refusal, Stepped, Worker};
-use well_formed::well_formed;
+use crate::whole::{packed_well, packing_of, state_of};
+use model::{Call, Called, Catalogue, Refusal, Worker};
 
 // Step in place, refusals 1, 4, 3, 5.
 #[tactic(auto, unfolding(model::specs::Packed::packed_call))]
@@ -22,7 +21,7 @@ fn take_step(
         return Err(Refusal::NoSuchWorker);
     }
     let table = words.as_mut_array::<512>().ok_or(Refusal::NotWellFormed)?;
-    if !well_formed(state_of(table, *workers)?) {
+    if !packed_well(table, *workers) {
         return Err(Refusal::NotWellFormed);
     }
     engine::step_worker(table, &mut workers[worker as usize], worker as u8)
@@ -43,11 +42,11 @@ fn begin(
     if 7 < worker {
         return Err(Refusal::NoSuchWorker);
     }
-    let state = state_of(words, *workers)?;
-    let Stepped { verdict, state } = engine::submit(state, worker, code, key, element);
-    let Catalogue { workers: after, .. } = state;
+    let table = packing_of(words).ok_or(Refusal::NotWellFormed)?;
+    let stepped = engine::submit(state_of(table, *workers), worker, code, key, element);
+    let after = stepped.state.workers;
     *workers = after;
-    verdict
+    stepped.verdict
 }
 
 // Refused, it leaves every word.

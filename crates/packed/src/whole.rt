@@ -1,14 +1,14 @@
 // Whole tables: whether words pack 128 rows, the state that they stand for, and a catalogue packed and unpacked.
 
 ghost use Rattle.std.specs.Prelude.{◌≡◌};
-ghost use Rattle.model.specs.Packed.{packs_rows, unpack};
-ghost use Rattle.packed.specs.Tables.{Packing};
-ghost use Rattle.packed.specs.Calls.{stands_for};
+ghost use Rattle.model.specs.Packed.{packs_rows, state_of, packed_well, unpack};
+ghost use Rattle.packed.specs.Tables.{PackedTable, Packing};
 
 use model::{Catalogue, Refusal, Stepped, Worker};
 use packed_rows::{packs_row, store_row};
 use std::array;
 use tables::Table;
+use well_formed::well_formed;
 
 // Whether the words are the packing of 128 rows.
 fn packs_rows(words: &[u32; 512]) -> bool
@@ -18,18 +18,30 @@ fn packs_rows(words: &[u32; 512]) -> bool
     rows.iter().all(|&[_, _, succ, rest]| packs_row(succ, rest))
 }
 
-// The state that the words and the workers stand for. Refusal 4: the words pack no rows.
-pub fn state_of(words: &[u32], workers: [Worker; Catalogue::WORKERS]) -> Result<Catalogue, Refusal>
-    ensures { result ≡ stands_for words.now workers }
+// The words as a table, if they pack 128 rows.
+pub fn packing_of(words: &[u32]) -> Option<&[u32; 512]>
+    ensures { PackedTable words.now result }
 {
-    let table = words.as_array::<512>().ok_or(Refusal::NotWellFormed)?;
-    if !packs_rows(table) {
-        return Err(Refusal::NotWellFormed);
-    }
-    Ok(Catalogue {
-        rows: array::from_fn(|i| table.row(i as u8)),
+    let table = words.as_array::<512>()?;
+    packs_rows(table).then_some(table)
+}
+
+// The state that 512 words and the workers stand for.
+pub fn state_of(words: &[u32; 512], workers: [Worker; Catalogue::WORKERS]) -> Catalogue
+    ensures { result ≡ state_of words.now workers }
+{
+    Catalogue {
+        rows: array::from_fn(|i| words.row(i as u8)),
         workers,
-    })
+    }
+}
+
+// Whether the words are the packing of a well-formed state.
+#[tactic(auto, unfolding(model::specs::Packed::packed_well))]
+pub fn packed_well(words: &[u32; 512], workers: [Worker; Catalogue::WORKERS]) -> bool
+    ensures { result ≡ packed_well words.now workers }
+{
+    packs_rows(words) && well_formed(state_of(words, workers))
 }
 
 // The rows of a catalogue go into 512 words. Another number of words is refused with 4, and nothing is written.
@@ -50,13 +62,13 @@ pub fn pack(state: Catalogue, words: &mut [u32]) -> Result<(), Refusal>
 pub fn unpack(words: &[u32], workers: [Worker; Catalogue::WORKERS]) -> Stepped
     ensures { result ≡ unpack words.now workers }
 {
-    match state_of(words, workers) {
-        Ok(state) => Stepped {
+    match packing_of(words) {
+        Some(table) => Stepped {
             verdict: Ok(()),
-            state,
+            state: state_of(table, workers),
         },
-        Err(refusal) => Stepped {
-            verdict: Err(refusal),
+        None => Stepped {
+            verdict: Err(Refusal::NotWellFormed),
             state: Catalogue::empty(),
         },
     }

@@ -1,12 +1,13 @@
 -- 4 for words that pack no rows or a state that is not well formed, else the step of the worker's record, put back in its place.
-use Rattle.std.proofs.Common.{◌<◌, ◌≡◌, ◌∙◌, sym, length, arith, rules, Err}
+use Rattle.std.proofs.Common.{◌<◌, ◌≡◌, sym, length, arith, rules, Err}
 use Rattle.std.proofs.lemmas.List.{get_or_default}
 use Rattle.std.specs.Array.{IsWholeChunk}
 use Rattle.model.specs.declared.Call.TheVariants.{Step}
 use Rattle.model.specs.declared.Refusal.TheVariants.{NotWellFormed}
 use Rattle.packing.specs.Tables.{packs_rows_lem}
+use Rattle.packing.specs.WellFormedWords.{packed_well_told}
 use Rattle.packed.specs.Tables.{unsized_rows}
-use Rattle.packed.specs.Calls.{no_rows, not_well, step_gives, stood, stands_well}
+use Rattle.packed.specs.Calls.{no_rows, not_well, step_gives}
 use Rattle.packed.proofs.calls.take_step.Goals as goal
 
 pub returns-in_err-table : goal.returns-in_err-table
@@ -16,12 +17,11 @@ returns-in_err-table c =
     let refused : c.from_residual.result ≡ Err NotWellFormed = search rules in
     rw refused (no_rows a.words.now a.workers.now (Step a.worker) c.if-worker-gt7.false (sym (unsized_rows a.words.now long)))
 
-pub returns-then-not-well_formed : goal.returns-then-not-well_formed
-returns-then-not-well_formed c =
+pub returns-then-not-packed_well : goal.returns-then-not-packed_well
+returns-then-not-packed_well c =
     let a = c.args in
     let whole : IsWholeChunk a.words.now c.in_ok-table.table.now 512 = search rules in
-    let ill = sym (stands_well c.in_ok-table.table.now a.workers.now _ c.in_ok-state_of.ensures) ∙ sym c.if-not-well_formed.ensures in
-    rw (← whole.same) (not_well c.in_ok-table.table.now a.workers.now (Step a.worker) c.if-worker-gt7.false ill)
+    rw (← whole.same) (not_well c.in_ok-table.table.now a.workers.now (Step a.worker) c.if-worker-gt7.false (sym c.if-not-packed_well.ensures))
 
 pub returns : goal.returns
 returns c =
@@ -29,7 +29,7 @@ returns c =
     let whole : IsWholeChunk a.words.now c.in_ok-table.table.now 512 = search rules in
     let inside : a.worker < length a.workers.now = omega arith in
     let steps = c.step_worker.ensures.step a.workers.now (get_or_default a.workers.now a.worker _ _ inside) in
-    let well = sym (stands_well c.in_ok-table.table.now a.workers.now _ c.in_ok-state_of.ensures) ∙ sym c.if-not-well_formed.ensures in
-    let packs = (stood c.in_ok-table.table.now a.workers.now _ c.in_ok-state_of.ensures).0 in
+    let well = sym c.if-not-packed_well.ensures in
+    let packs = (packed_well_told c.in_ok-table.table.now a.workers.now well).0 in
     let again = c.step_worker.ensures.sound (packs_rows_lem c.in_ok-table.table.now packs).again in
     rw (← whole.same) (step_gives c.in_ok-table.table.now a.workers.now a.worker _ _ _ c.if-worker-gt7.false well steps again)
