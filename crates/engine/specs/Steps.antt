@@ -24,7 +24,7 @@ StepsAs rows workers me verdict after later =
 pub then_stored : (before rows after : List Row) (q : ℕ) (row : Row) → rows ≡ before → after ≡ set rows q row → after ≡ set before q row
 then_stored before rows after q row first second = second ∙ ap (λ (l : List Row). set l q row) first
 
--- what stands at a worker's index is idle if the worker's own record is
+-- whether a worker is idle is told by what stands at its index, whatever the default
 pub idle_found : (workers : List Worker) (w : ℕ) (d : Worker) (b : Bool) → w < length workers → idle (get_or workers w d).line ≡ b → idle (worker_at workers w).line ≡ b
 idle_found workers w d b inside i = ap (λ (k : Worker). idle k.line) (get_or_default workers w _ d inside) ∙ i
 

@@ -14,11 +14,11 @@ use Rattle.model.specs.declared.Refusal.{Refusal}
 use Rattle.model.specs.Verdict.{Verdict}
 use Rattle.model.proofs.Refusals.{step_worker_unchanged}
 
--- at the start no step is taken off the budget
+-- the turn of a budget is that of the budget less 0
 pub turn_start : (w b : ℕ) (c : Catalogue) → turn_from w b 0 c ≡ turn_from w (b - 0) 0 c
 turn_start w b c = rw sub-zero
 
--- a turn of this verdict, with so many steps, this state and this record
+-- the end of a turn with this record, whosever it is
 abbrev pub ends : Verdict → ℕ → Catalogue → Worker → Turned
 ends v n c k = record { verdict = v; steps = n; state = c; lent = k }
 

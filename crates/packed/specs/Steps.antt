@@ -22,6 +22,7 @@ pub record StepsAs (words : List ℕ) (workers : List Worker) (me : ℕ) (m : Mo
   pub rows : after ≡ packed (step_worker (state_of words workers) me).state.rows
 
 module _ (words : List ℕ) (packs : PacksRows words) (workers : List Worker) (me : ℕ) where
+  -- a refused step leaves the worker's record and the words
   pub refused : (k : Worker) → worker_at workers me ≡ k → (r : Refusal) → refuse r (state_of words workers) ≡ step_worker (state_of words workers) me
       → StepsAs words workers me (record { verdict = Err r; worker = k }) words
   refused k its r step = record {
@@ -30,6 +31,7 @@ module _ (words : List ℕ) (packs : PacksRows words) (workers : List Worker) (m
     rows = sym packs.again ∙ ap (λ (s : Stepped). packed s.state.rows) step;
   }
 
+  -- a step that moves on leaves the words with its write stored
   pub moved : (write : Write) (after : Worker) (later : List ℕ) → later ≡ stored words write
       → accept (record { rows = written (unpacked words) write; workers = set workers me after }) ≡ step_worker (state_of words workers) me
       → StepsAs words workers me (record { verdict = Ok tt; worker = after }) later

@@ -1,5 +1,5 @@
--- A test of an array that goes on from an element is the test from the next one on, where it passes that element; and what it is where it
--- fails, and at the end. For every test.
+-- The test of an array from element i on: it is the test from the next element on if element i passes, false if it fails, and true past
+-- the end. For every test.
 use Rattle.std.specs.Prelude.{ℕ, ◌+◌, ◌≤◌, ◌<◌, ◌≡◌, Bool, true, false, List, length, drop, get_or}
 use Rattle.std.proofs.Common.{add-one, drop_of_length-le}
 use Rattle.std.proofs.Math.Seq.{drop-cons}
