@@ -93,10 +93,13 @@ pub fn store_row(words: &mut [u32], i: u8, row: Row)
     requires { length words.old ≡ 512 }
     ensures { (words.new ≡ stored_row words.old i row) × Bytes row }
 {
-    let four = [row.key, row.element, succ_word(row.succ), rest_word(row)];
     let at = usize::from(i) * 4;
+    let rest = rest_word(row);
     if at < 512 {
-        words[at..at + 4].copy_from_slice(&four);
+        words[at] = row.key;
+        words[at + 1] = row.element;
+        words[at + 2] = succ_word(row.succ);
+        words[at + 3] = rest;
     }
 }
 
