@@ -1,8 +1,8 @@
 -- What the code of a step promises, and one law for each way out.
-use Rattle.std.specs.Prelude.{ℕ, ◌≡◌, refl, true, false, List, length, set}
+use Rattle.std.specs.Prelude.{ℕ, ◌<◌, ◌≡◌, refl, Bool, true, false, List, length, get_or, set}
 use Rattle.std.specs.Prelude.{Ok, Err}
-use Rattle.std.proofs.Common.{length-set}
-use Rattle.std.proofs.lemmas.List.{set-get_or}
+use Rattle.std.proofs.Common.{◌∙◌, ap, length-set}
+use Rattle.std.proofs.lemmas.List.{set-get_or, get_or_default}
 use Rattle.model.specs.Verdict.{Verdict}
 use Rattle.model.specs.State.{worker_at, idle}
 use Rattle.model.specs.Step.{effect_of, written, worker_after, ninth_help, applied, step_worker}
@@ -19,6 +19,14 @@ abbrev pub StepsAs : List Row → List Worker → ℕ → Verdict → Worker →
 StepsAs rows workers me verdict after later =
     record { verdict = verdict; state = record { rows = later; workers = set workers me after } }
     ≡ step_worker (record { rows = rows; workers = workers }) me
+
+-- a second store, to rows that a first one left
+pub then_stored : (before rows after : List Row) (q : ℕ) (row : Row) → rows ≡ before → after ≡ set rows q row → after ≡ set before q row
+then_stored before rows after q row first second = second ∙ ap (λ (l : List Row). set l q row) first
+
+-- whether a worker is idle is told by what stands at its index, whatever the default
+pub idle_found : (workers : List Worker) (w : ℕ) (d : Worker) (b : Bool) → w < length workers → idle (get_or workers w d).line ≡ b → idle (worker_at workers w).line ≡ b
+idle_found workers w d b inside i = ap (λ (k : Worker). idle k.line) (get_or_default workers w _ d inside) ∙ i
 
 -- One law for each way out of a step of worker w, whose record is k.
 module _ (rows : List Row) (workers : List Worker) (w : ℕ) (k : Worker) (its : worker_at workers w ≡ k) where

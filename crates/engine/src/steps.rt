@@ -13,7 +13,7 @@ use tables::Table;
 
 // What the worker's line does.
 #[tactic(auto, unfolding(model::specs::Step::effect_of))]
-fn effect_on<T: Table>(table: &T, me: u8, worker: Worker) -> Effect
+pub fn effect_on<T: Table>(table: &T, me: u8, worker: Worker) -> Effect
     ensures { result ≡ effect_of (T.rows table.now) me worker }
 {
     let last = help_at(worker.helps, worker.count.saturating_sub(1));
@@ -47,7 +47,7 @@ fn stacked(worker: Worker, line: Line, stack: Stack) -> Worker
 
 // On finishing, all other registers of the worker become zero.
 #[tactic(auto, unfolding(model::specs::Step::worker_after))]
-fn worker_after(worker: Worker, effect: Effect) -> Worker
+pub fn worker_after(worker: Worker, effect: Effect) -> Worker
     requires { ninth_help worker.count effect.stack ≡ false }
     ensures { result ≡ worker_after worker effect }
 {

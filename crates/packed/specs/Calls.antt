@@ -4,8 +4,7 @@ use Rattle.std.proofs.Common.{ap, sym, lt-ltb, le-ltb}
 use Rattle.model.specs.Step.{step, submit, step_worker}
 use Rattle.model.specs.Run.{call}
 use Rattle.model.specs.Printed.{call_worker}
-use Rattle.model.specs.Verdict.{Verdict}
-use Rattle.model.specs.Packed.{packed, unpacked, packs_rows, state_of, packed_well, OnWords, packed_stepped, packed_call}
+use Rattle.model.specs.Packed.{packs_rows, state_of, packed_well, OnWords, packed_stepped, packed_call}
 use Rattle.model.specs.declared.Worker.{Worker}
 use Rattle.model.specs.declared.Called.{Called}
 use Rattle.model.specs.declared.Call.{Call}
@@ -14,7 +13,8 @@ use Rattle.model.specs.declared.Refusal.{Refusal}
 use Rattle.model.specs.declared.Refusal.TheVariants.{NoSuchWorker, NotWellFormed}
 use Rattle.packing.specs.WellFormedWords.{packed_well_told}
 use Rattle.packing.specs.PackedCalls.{ill_refused}
-use Rattle.engine.specs.Steps.{StepsAs}
+use Rattle.packed.specs.declared.steps.Moved.{Moved}
+use Rattle.packed.specs.Steps.{StepsAs}
 
 abbrev pub refused_call : Refusal → List Worker → Called
 refused_call r workers = record { verdict = Err r; workers = workers }
@@ -51,8 +51,6 @@ module _ (words : List ℕ) (workers : List Worker) where
       let parts = packed_well_told words workers well in
       rw (le-ltb 7 w h, parts.0, parts.1)
 
-  -- a step of the rows for which the words stand, and which later words pack again
-  pub step_gives : (w : ℕ) (v : Verdict) (after : Worker) (later : List ℕ) → w ≤ 7 → packed_well words workers ≡ true
-      → StepsAs (unpacked words) workers w v after (unpacked later) → packed (unpacked later) ≡ later
-      → Gives (packed_call words workers (Step w)) (record { verdict = v; workers = set workers w after }) later
-  step_gives w v after later h well steps again = told (rw (← stepped w h well, ← steps, again))
+  pub step_gives : (w : ℕ) (m : Moved) (after : List ℕ) → w ≤ 7 → packed_well words workers ≡ true → StepsAs words workers w m after
+      → Gives (packed_call words workers (Step w)) (record { verdict = m.verdict; workers = set workers w m.worker }) after
+  step_gives w m after h well steps = rw (← stepped w h well) (cc (steps.verdict, steps.record_back), steps.rows)

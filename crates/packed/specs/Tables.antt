@@ -1,13 +1,13 @@
 -- What the code over whole tables needs to know: the test of all rows is that of each four words, the rows read one by one are all rows, and
 -- the words of one row more.
-use Rattle.std.specs.Prelude.{ℕ, zero, suc, ◌+◌, ◌*◌, ◌/◌, ◌≤◌, ◌<◌, ◌≡◌, refl, Bool, true, false, ◌&&◌, List, [], ◌∷◌, ◌++◌, length, get_or, take, drop, Option, MatchOption, Ok, Err}
+use Rattle.std.specs.Prelude.{ℕ, zero, suc, ◌+◌, ◌*◌, ◌/◌, ◌≤◌, ◌<◌, ◌≡◌, refl, Bool, true, false, ◌&&◌, List, [], ◌∷◌, ◌++◌, length, get_or, set, take, drop, Option, MatchOption, Ok, Err}
 use Rattle.std.specs.Bool.{then_some}
 use Rattle.std.specs.List.{list_all}
 use Rattle.std.specs.Simd.{first_chunks}
 use Rattle.std.specs.Array.{IsFromFnResult, IsFromFnResultFrom}
 use denote.Param.Members.{Mut, Called}
 use denote.Ref.{Bor}
-use Rattle.std.proofs.Common.{inl, inr, ap, sym, ◌∙◌, arith, add-one, take-suc, take_all, length-append, eq-eqb, ne_eqb}
+use Rattle.std.proofs.Common.{inl, inr, ap, sym, ◌∙◌, arith, add-one, drop_of_length-le, drop-cons, take-suc, take-suc-set, take_all, length-append, eq-eqb, ne_eqb}
 use Rattle.std.proofs.Math.Seq.{length-take-le, take_at}
 use Rattle.std.proofs.lemmas.Bool.{cases_lt}
 use Rattle.std.proofs.lemmas.List.{ext_get_or}
@@ -41,6 +41,37 @@ each_packs n (a ∷ b ∷ []) size = absurd (omega arith)
 each_packs n (a ∷ b ∷ c ∷ []) size = absurd (omega arith)
 each_packs zero (k ∷ e ∷ s ∷ r ∷ words) size = absurd (omega arith)
 each_packs (suc n) (k ∷ e ∷ s ∷ r ∷ words) size = ap (λ (b : Bool). packs_row s r && b) (each_packs n words (omega arith))
+
+module _ (words : List ℕ) (i : ℕ) (inside : i < 128) (size : length words ≡ 512) where
+  -- the words from row i on are those of row i, and those from row i + 1 on
+  row_dropped : drop (i * 4) words
+      ≡ word_at words (i * 4) ∷ word_at words (i * 4 + 1) ∷ word_at words (i * 4 + 2) ∷ word_at words (i * 4 + 3) ∷ drop ((i + 1) * 4) words
+  row_dropped =
+      let one : i * 4 + 1 ≡ suc (i * 4) = omega arith in
+      let two : i * 4 + 2 ≡ suc (suc (i * 4)) = omega arith in
+      let three : i * 4 + 3 ≡ suc (suc (suc (i * 4))) = omega arith in
+      let next : (i + 1) * 4 ≡ suc (suc (suc (suc (i * 4)))) = omega arith in
+      rw (one, two, three, next)
+      (drop-cons words (i * 4) 0 (omega arith)
+      ∙ ap (λ (l : List ℕ). word_at words (i * 4) ∷ l) (drop-cons words (suc (i * 4)) 0 (omega arith)
+      ∙ ap (λ (l : List ℕ). word_at words (suc (i * 4)) ∷ l) (drop-cons words (suc (suc (i * 4))) 0 (omega arith)
+      ∙ ap (λ (l : List ℕ). word_at words (suc (suc (i * 4))) ∷ l) (drop-cons words (suc (suc (suc (i * 4)))) 0 (omega arith)))))
+
+  -- from row i on, where its words are a row's, the test is that from the next row on
+  pub each_more : packs_row (word_at words (i * 4 + 2)) (word_at words (i * 4 + 3)) ≡ true
+      → packs_each (drop (i * 4) words) ≡ packs_each (drop ((i + 1) * 4) words)
+  unfolding packs_each
+  each_more h = rw row_dropped (simp h)
+
+  -- and fails where they are not
+  pub each_stop : packs_row (word_at words (i * 4 + 2)) (word_at words (i * 4 + 3)) ≡ false → packs_each (drop (i * 4) words) ≡ false
+  unfolding packs_each
+  each_stop h = rw row_dropped (simp h)
+
+-- no words are left past the last row
+pub each_done : (words : List ℕ) (i : ℕ) → length words ≤ i * 4 → packs_each (drop (i * 4) words) ≡ true
+unfolding packs_each
+each_done words i h = rw (drop_of_length-le words h)
 
 pub sized_rows : (words : List ℕ) (b : Bool) → length words ≡ 512 → packs_each words ≡ b → b ≡ packs_rows words
 unfolding packs_rows
@@ -83,6 +114,16 @@ rows_read g f words rows size made says =
     let long = rows_number 128 words size in
     ext_get_or free_row rows (unpacked words) (omega (arith, made.long))
     (λ i h. made_each g (λ x y. y ≡ row_at (unpacked words) x) f says rows 0 128 made.each i free_row (omega arith) (omega (arith, made.long)))
+
+-- rows that agree with these up to i, and hold row i at i, agree up to i + 1
+pub filled : (rows all : List Row) (i : ℕ) (row : Row) → i < length rows → i < length all → row ≡ row_at all i → take i rows ≡ take i all
+    → take (i + 1) (set rows i row) ≡ take (i + 1) all
+filled rows all i row inside there found before =
+    rw add-one (take-suc-set rows i row inside ∙ rw (before, found) (sym (take-suc all i free_row there)))
+
+-- and those that agree up to the end are these
+pub all_filled : {A : Type 0} (n : ℕ) (rows all : List A) → length rows ≡ n → length all ≡ n → take n rows ≡ take n all → rows ≡ all
+all_filled n rows all p q h = sym (take_all n rows (omega arith)) ∙ h ∙ take_all n all (omega arith)
 
 -- ---- Rows packed into words ----
 

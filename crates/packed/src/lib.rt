@@ -4,7 +4,9 @@
 #![tactic(auto)]
 
 mod calls;
+mod steps;
 mod whole;
 
 pub use calls::{call, step, submit};
+pub use steps::{Moved, step_worker};
 pub use whole::{pack, unpack};

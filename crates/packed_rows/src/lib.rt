@@ -1,5 +1,5 @@
-// One row in lent words: read, stored, and told whether its words are a row's. The layout is the model's, in `specs/Packed.antt`: key,
-// element, successor, and the rest.
+// Rows in lent words: one read, one stored, the rows of a write stored, and whether the words are a row's. The layout is the model's, in
+// `specs/Packed.antt`: key, element, successor, and the rest.
 
 #![tactic(auto)]
 
@@ -7,9 +7,9 @@ ghost use Rattle.std.specs.Prelude.{◌<◌, ◌≡◌, length};
 ghost use Rattle.model.specs.State.{row_at};
 ghost use Rattle.model.specs.Packed.{succ_word, standing_number, rest_word, succ_from, standing_from, row_from, unpacked, packs_row};
 ghost use Rattle.packing.specs.OneRow.{Bytes};
-ghost use Rattle.packing.specs.Stored.{stored_row};
+ghost use Rattle.packing.specs.Stored.{stored_row, stored};
 
-use model::{Row, Standing, Succ, free_row};
+use model::{Row, Standing, Succ, Write, free_row};
 
 // ---- A row from its words ----
 
@@ -93,10 +93,29 @@ pub fn store_row(words: &mut [u32], i: u8, row: Row)
     requires { length words.old ≡ 512 }
     ensures { (words.new ≡ stored_row words.old i row) × Bytes row }
 {
-    let four = [row.key, row.element, succ_word(row.succ), rest_word(row)];
     let at = usize::from(i) * 4;
+    let rest = rest_word(row);
     if at < 512 {
-        words[at..at + 4].copy_from_slice(&four);
+        words[at] = row.key;
+        words[at + 1] = row.element;
+        words[at + 2] = succ_word(row.succ);
+        words[at + 3] = rest;
+    }
+}
+
+// The rows that a line writes.
+#[tactic(auto, unfolding(packing::specs::Stored::stored))]
+pub fn store(words: &mut [u32], write: Write)
+    requires { length words.old ≡ 512 }
+    ensures { words.new ≡ stored words.old write }
+{
+    match write {
+        Write::NoRow => {}
+        Write::OneRow(i, row) => store_row(words, i, row),
+        Write::TwoRows(i, row, j, other) => {
+            store_row(words, i, row);
+            store_row(words, j, other);
+        }
     }
 }
 

@@ -1,1 +1,3 @@
+pub mod Holder
+pub mod Loops
 pub mod OneOutcome

@@ -7,6 +7,7 @@ use Rattle.model.specs.declared.Refusal.TheVariants.{NotWellFormed}
 use Rattle.packing.specs.Tables.{packs_rows_lem}
 use Rattle.packing.specs.WellFormedWords.{packed_well_told}
 use Rattle.packed.specs.Tables.{unsized_rows}
+use Rattle.packed.specs.Steps.{repacked}
 use Rattle.packed.specs.Calls.{no_rows, not_well, step_gives}
 use Rattle.packed.proofs.calls.take_step.Goals as goal
 
@@ -30,6 +31,8 @@ returns c =
     let inside : a.worker < length a.workers.now = omega arith in
     let steps = c.step_worker.ensures.step a.workers.now (get_or_default a.workers.now a.worker _ _ inside) in
     let well = sym c.if-not-packed_well.ensures in
-    let packs = (packed_well_told c.in_ok-table.table.now a.workers.now well).0 in
-    let again = c.step_worker.ensures.sound (packs_rows_lem c.in_ok-table.table.now packs).again in
-    rw (← whole.same) (step_gives c.in_ok-table.table.now a.workers.now a.worker _ _ _ c.if-worker-gt7.false well steps again)
+    let packs = packs_rows_lem c.in_ok-table.table.now (packed_well_told c.in_ok-table.table.now a.workers.now well).0 in
+    let again = c.step_worker.ensures.sound packs.again in
+    rw (← whole.same)
+    (step_gives c.in_ok-table.table.now a.workers.now a.worker _ _ c.if-worker-gt7.false well
+    (repacked c.in_ok-table.table.now a.workers.now a.worker _ _ _ steps again))
