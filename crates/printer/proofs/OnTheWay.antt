@@ -4,10 +4,10 @@ use Rattle.std.proofs.Common.{sym, ap, ◌∙◌, subst, append_assoc, arith}
 use Rattle.std.specs.declared.option.Option.{Option}
 use Rattle.std.specs.Io.KnownBytes.{Appends}
 use Rattle.std.proofs.KnownBytes.{Appends-nil, Appends-trans}
-use Rattle.arrayvec.specs.ArrayVec.{ArrayVec}
 use Rattle.model.specs.Schedule.{body, calls_of, file_verdict}
 use Rattle.model.specs.Printed.{heading, last_line, refused_file, file_text, printed}
 use Rattle.model.specs.declared.Refusal.{Refusal}
+use Rattle.schedule.specs.declared.text.Text.{Text}
 use Rattle.schedule.specs.declared.run.Run.{Run}
 use Rattle.schedule.specs.Shown.{shown, Shows}
 use Rattle.schedule.specs.Events.{Starts, Event, Happens}
@@ -35,7 +35,7 @@ at_start {file} a starts accepted = record {
 
 module _ {file : List ℕ} {run : Run} {a b : Option (List ℕ)} (before : OnTheWay file run a b) where
   -- What follows where a record is left: its event's text, and what is left to print after it.
-  module _ {text : ArrayVec ℕ} {next : Run} (happens : Happens run (Some text) next) where
+  module _ {text : Text} {next : Run} (happens : Happens run (Some text) next) where
     one : Event run happens.0 happens.1 text next
     one = happens.2
 
@@ -70,7 +70,7 @@ module _ {file : List ℕ} {run : Run} {a b : Option (List ℕ)} (before : OnThe
     stopped_there c part = subst (AppendsFront a c) follows.whole (behind a b c before.lines _ before.written (longer b c (shown text) _ part))
 
   -- And the last line, where no record is left.
-  module _ {end : Run} {last : ArrayVec ℕ} (over : Happens run None end) (shows : Shows (last_line end.state) last) where
+  module _ {end : Run} {last : Text} (over : Happens run None end) (shows : Shows (last_line end.state) last) where
     whole_then : before.lines ++ shown last ≡ all_lines file
     whole_then =
         ap (λ (l : List ℕ). before.lines ++ l) (shows ∙ ap (λ (r : Run). last_line r.state) over.1 ∙ sym (last_prints run over.0 before.tries))
@@ -85,26 +85,26 @@ module _ {file : List ℕ} {run : Run} {a b : Option (List ℕ)} (before : OnThe
 -- ---- The whole file ----
 
 module _ (file : List ℕ) where
-  accepted_whole : {first : ArrayVec ℕ} → (Ok tt) ≡ file_verdict file → Shows heading first → shown first ++ all_lines file ≡ printed file
+  accepted_whole : {first : Text} → (Ok tt) ≡ file_verdict file → Shows heading first → shown first ++ all_lines file ≡ printed file
   unfolding printed file_text
   accepted_whole accepted shows = rw (← accepted, shows)
 
   -- with the heading before them, these are the bytes of an accepted file
-  pub all_told : (first : ArrayVec ℕ) (a b c : Option (List ℕ)) → (Ok tt) ≡ file_verdict file → Shows heading first
+  pub all_told : (first : Text) (a b c : Option (List ℕ)) → (Ok tt) ≡ file_verdict file → Shows heading first
       → Appends a b (shown first) → Appends b c (all_lines file) → Appends a c (printed file)
   all_told first a b c accepted shows head told = subst (Appends a c) (accepted_whole accepted shows) (Appends-trans a b c _ _ head told)
 
-  pub stopped_in_heading : (first : ArrayVec ℕ) (a b : Option (List ℕ)) → (Ok tt) ≡ file_verdict file → Shows heading first
+  pub stopped_in_heading : (first : Text) (a b : Option (List ℕ)) → (Ok tt) ≡ file_verdict file → Shows heading first
       → AppendsFront a b (shown first) → AppendsFront a b (printed file)
   stopped_in_heading first a b accepted shows part = subst (AppendsFront a b) (accepted_whole accepted shows) (longer a b (shown first) _ part)
 
-  pub stopped_in_lines : (first : ArrayVec ℕ) (a b c : Option (List ℕ)) → (Ok tt) ≡ file_verdict file → Shows heading first
+  pub stopped_in_lines : (first : Text) (a b c : Option (List ℕ)) → (Ok tt) ≡ file_verdict file → Shows heading first
       → Appends a b (shown first) → AppendsFront b c (all_lines file) → AppendsFront a c (printed file)
   stopped_in_lines first a b c accepted shows head part =
       subst (AppendsFront a c) (accepted_whole accepted shows) (behind a b c (shown first) _ head part)
 
   -- one line is the bytes of a refused file
-  module _ (r : Refusal) (only : ArrayVec ℕ) (a b : Option (List ℕ)) (refused : Err r ≡ file_verdict file) (shows : Shows (refused_file r) only) where
+  module _ (r : Refusal) (only : Text) (a b : Option (List ℕ)) (refused : Err r ≡ file_verdict file) (shows : Shows (refused_file r) only) where
     pub refused_told : Appends a b (shown only) → Appends a b (printed file)
     refused_told told = subst (Appends a b) (refused_prints file (sym refused) shows) told
 

@@ -3,10 +3,10 @@
 use Rattle.std.specs.Prelude.{◌≡◌, ℕ, zero, suc, ◌+◌, ◌-◌, ◌^◌, ◌<◌, ◌≤◌, Ok, Err, List, [], ◌++◌, length, refl}
 use Rattle.std.proofs.Common.{ap, sym, ◌∙◌, append_assoc, arith, length-drop}
 use Rattle.std.proofs.lemmas.Bool.Decides.{nat_tests}
-use Rattle.arrayvec.specs.ArrayVec.{ArrayVec}
 use Rattle.model.specs.Schedule.{body, calls_from, calls_of, file_verdict}
 use Rattle.model.specs.Printed.{heading, last_line, run_text, refused_file, file_text, printed}
 use Rattle.model.specs.declared.Refusal.{Refusal}
+use Rattle.schedule.specs.declared.text.Text.{Text}
 use Rattle.schedule.specs.declared.run.Run.{Run}
 use Rattle.schedule.specs.Shown.{shown, Shows}
 use Rattle.schedule.specs.Events.{Starts, Event}
@@ -22,7 +22,7 @@ pub record Lasts (run : Run) (tries : ℕ) : Type 0 where
   pub fits : run.event + length run.records.now < 2 ^ 32
 
 -- Where a record is left, what is left to print is the text of its event, and what is left after that.
-module _ {run next : Run} {n : ℕ} {rest : List ℕ} {text : ArrayVec ℕ} (one : Event run n rest text next) {tries : ℕ} (lasts : Lasts run (suc tries)) where
+module _ {run next : Run} {n : ℕ} {rest : List ℕ} {text : Text} (one : Event run n rest text next) {tries : ℕ} (lasts : Lasts run (suc tries)) where
   counted : next.event ≡ run.event + 1
   counted = omega (arith, one.event, lasts.fits, ap length one.there)
 
@@ -42,7 +42,7 @@ unfolding run_text calls_from
 last_prints run past zero = refl
 last_prints run past (suc tries) = rw past
 
-ran_prints : {run end : Run} {texts : List (ArrayVec ℕ)} → Ran run texts end → (tries : ℕ) → Lasts run tries
+ran_prints : {run end : Run} {texts : List Text} → Ran run texts end → (tries : ℕ) → Lasts run tries
     → all_shown texts ++ last_line end.state ≡ left_to_print run tries
 unfolding all_shown
 ran_prints {run} (over past) tries lasts = sym (last_prints run past tries)
@@ -64,7 +64,7 @@ start_lasts {file} accepted starts =
     record { enough = omega (arith, left); fits = omega (arith, left, starts.event, accepted_short file accepted) }
 
 -- All that is printed for a file that is not refused.
-pub run_prints : {file : List ℕ} {start end : Run} {texts : List (ArrayVec ℕ)} {first last : ArrayVec ℕ} → file_verdict file ≡ Ok tt
+pub run_prints : {file : List ℕ} {start end : Run} {texts : List Text} {first last : Text} → file_verdict file ≡ Ok tt
     → Shows heading first → Starts file start → Ran start texts end → Shows (last_line end.state) last
     → shown first ++ (all_shown texts ++ shown last) ≡ printed file
 unfolding printed file_text calls_of
@@ -74,7 +74,7 @@ run_prints {file} accepted first starts ran last =
     (ran_prints ran (length (body file)) (start_lasts accepted starts) ∙ rw (starts.state, starts.event, starts.records)))
 
 -- All that is printed for a file that is refused.
-pub refused_prints : (file : List ℕ) {r : Refusal} {only : ArrayVec ℕ} → file_verdict file ≡ Err r → Shows (refused_file r) only
+pub refused_prints : (file : List ℕ) {r : Refusal} {only : Text} → file_verdict file ≡ Err r → Shows (refused_file r) only
     → shown only ≡ printed file
 unfolding printed file_text
 refused_prints file refused only = rw refused only

@@ -1,3 +1,4 @@
+pub mod Padded
 pub mod Shown
 pub mod Events
 pub mod Digits
