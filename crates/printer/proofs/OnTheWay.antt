@@ -1,5 +1,5 @@
 -- A run on its way: what was written so far, and that what is left to print makes it whole.
-use Rattle.std.specs.Prelude.{◌≡◌, ℕ, zero, suc, None, Some, Ok, Err, List, [], ◌++◌, length}
+use Rattle.std.specs.Prelude.{◌≡◌, ℕ, zero, suc, ◌<◌, ◌≤◌, Ok, Err, List, [], ◌++◌, length, refl}
 use Rattle.std.proofs.Common.{sym, ap, ◌∙◌, subst, append_assoc, arith}
 use Rattle.std.specs.declared.option.Option.{Option}
 use Rattle.std.specs.Io.KnownBytes.{Appends}
@@ -9,72 +9,69 @@ use Rattle.model.specs.Printed.{heading, last_line, refused_file, file_text, pri
 use Rattle.model.specs.declared.Refusal.{Refusal}
 use Rattle.schedule.specs.declared.text.Text.{Text}
 use Rattle.schedule.specs.declared.run.Run.{Run}
+use Rattle.schedule.specs.declared.run.Event.{Event}
 use Rattle.schedule.specs.Shown.{shown, Shows}
-use Rattle.schedule.specs.Events.{Starts, Event, Happens}
+use Rattle.schedule.specs.Events.{start_run, Happens}
 use Rattle.schedule.proofs.Whole.{left_to_print, Lasts, event_prints, still_enough, last_prints, start_lasts, refused_prints}
 use Rattle.printer.specs.Written.{AppendsFront, all_lines}
 use Rattle.printer.proofs.Fronts.{behind, longer}
 
--- The bytes `lines` were written, and with what is left to print they are all lines.
-pub record OnTheWay (file : List ℕ) (run : Run) (old new : Option (List ℕ)) : Type 0 where
+-- The bytes `lines` were written, and with what is left to print from r on they are all lines.
+pub record OnTheWay (file : List ℕ) (r : Run) (old new : Option (List ℕ)) : Type 0 where
   pub tries : ℕ
-  pub lasts : Lasts run tries
+  pub lasts : Lasts file r tries
   pub lines : List ℕ
-  pub whole : lines ++ left_to_print run tries ≡ all_lines file
+  pub whole : lines ++ left_to_print file r tries ≡ all_lines file
   pub written : Appends old new lines
 
-pub at_start : {file : List ℕ} {start : Run} (a : Option (List ℕ)) → Starts file start → file_verdict file ≡ Ok tt → OnTheWay file start a a
+pub at_start : (file : List ℕ) (a : Option (List ℕ)) → file_verdict file ≡ Ok tt → OnTheWay file start_run a a
 unfolding calls_of
-at_start {file} a starts accepted = record {
+at_start file a accepted = record {
   tries = length (body file);
-  lasts = start_lasts accepted starts;
+  lasts = start_lasts file accepted;
   lines = [];
-  whole = rw (starts.state, starts.event, starts.records);
+  whole = refl;
   written = Appends-nil a;
 }
 
-module _ {file : List ℕ} {run : Run} {a b : Option (List ℕ)} (before : OnTheWay file run a b) where
+module _ {file : List ℕ} {r : Run} {a b : Option (List ℕ)} (before : OnTheWay file r a b) where
   -- What follows where a record is left: its event's text, and what is left to print after it.
-  module _ {text : Text} {next : Run} (happens : Happens run (Some text) next) where
-    one : Event run happens.0 happens.1 text next
-    one = happens.2
-
+  module _ {e : Event} (inside : r.at < length file) (happens : Happens file r e) where
     record Follows : Type 0 where
       pub tries : ℕ
-      pub lasts : Lasts next tries
-      pub whole : before.lines ++ (shown text ++ left_to_print next tries) ≡ all_lines file
+      pub lasts : Lasts file e.run tries
+      pub whole : before.lines ++ (shown e.text ++ left_to_print file e.run tries) ≡ all_lines file
 
     follows : Follows
     follows = go before.tries before.lasts before.whole
       where
-        go : (tries : ℕ) → Lasts run tries → before.lines ++ left_to_print run tries ≡ all_lines file → Follows
-        go zero lasts whole = absurd (omega (arith, lasts.enough, ap length one.there))
+        go : (tries : ℕ) → Lasts file r tries → before.lines ++ left_to_print file r tries ≡ all_lines file → Follows
+        go zero lasts whole = absurd (omega (arith, lasts.enough))
         go (suc tries) lasts whole = record {
           tries = tries;
-          lasts = still_enough one lasts;
-          whole = ap (λ (l : List ℕ). before.lines ++ l) (sym (event_prints one lasts)) ∙ whole;
+          lasts = still_enough inside happens tries lasts;
+          whole = ap (λ (l : List ℕ). before.lines ++ l) (sym (event_prints inside happens tries lasts.fits)) ∙ whole;
         }
 
     -- one event more
-    pub one_more : (c : Option (List ℕ)) → Appends b c (shown text) → OnTheWay file next a c
+    pub one_more : (c : Option (List ℕ)) → Appends b c (shown e.text) → OnTheWay file e.run a c
     one_more c line = record {
       tries = follows.tries;
       lasts = follows.lasts;
-      lines = before.lines ++ shown text;
-      whole = append_assoc before.lines (shown text) (left_to_print next follows.tries) ∙ follows.whole;
+      lines = before.lines ++ shown e.text;
+      whole = append_assoc before.lines (shown e.text) (left_to_print file e.run follows.tries) ∙ follows.whole;
       written = Appends-trans a b c _ _ before.written line;
     }
 
     -- a write of its text that stopped
-    pub stopped_there : (c : Option (List ℕ)) → AppendsFront b c (shown text) → AppendsFront a c (all_lines file)
-    stopped_there c part = subst (AppendsFront a c) follows.whole (behind a b c before.lines _ before.written (longer b c (shown text) _ part))
+    pub stopped_there : (c : Option (List ℕ)) → AppendsFront b c (shown e.text) → AppendsFront a c (all_lines file)
+    stopped_there c part =
+        subst (AppendsFront a c) follows.whole (behind a b c before.lines _ before.written (longer b c (shown e.text) _ part))
 
   -- And the last line, where no record is left.
-  module _ {end : Run} {last : Text} (over : Happens run None end) (shows : Shows (last_line end.state) last) where
+  module _ {last : Text} (past : length file ≤ r.at) (shows : Shows (last_line r.state) last) where
     whole_then : before.lines ++ shown last ≡ all_lines file
-    whole_then =
-        ap (λ (l : List ℕ). before.lines ++ l) (shows ∙ ap (λ (r : Run). last_line r.state) over.1 ∙ sym (last_prints run over.0 before.tries))
-        ∙ before.whole
+    whole_then = ap (λ (l : List ℕ). before.lines ++ l) (shows ∙ sym (last_prints file r past before.tries)) ∙ before.whole
 
     pub at_end : (c : Option (List ℕ)) → Appends b c (shown last) → Appends a c (all_lines file)
     at_end c line = subst (Appends a c) whole_then (Appends-trans a b c _ _ before.written line)
