@@ -1,5 +1,5 @@
 -- A run on its way: what was written so far, and that what is left to print makes it whole.
-use Rattle.std.specs.Prelude.{◌≡◌, ℕ, zero, suc, ◌<◌, ◌≤◌, Ok, Err, List, [], ◌++◌, length, refl}
+use Rattle.std.specs.Prelude.{◌≡◌, ℕ, zero, suc, ◌<◌, None, Ok, Err, List, [], ◌++◌, length, refl}
 use Rattle.std.proofs.Common.{sym, ap, ◌∙◌, subst, append_assoc, arith}
 use Rattle.std.specs.declared.option.Option.{Option}
 use Rattle.std.specs.Io.KnownBytes.{Appends}
@@ -11,7 +11,7 @@ use Rattle.schedule.specs.declared.text.Text.{Text}
 use Rattle.schedule.specs.declared.run.Run.{Run}
 use Rattle.schedule.specs.declared.run.Event.{Event}
 use Rattle.schedule.specs.Shown.{shown, Shows}
-use Rattle.schedule.specs.Events.{start_run, Happens}
+use Rattle.schedule.specs.Events.{start_run, Happens, Advances}
 use Rattle.schedule.proofs.Whole.{left_to_print, Lasts, event_prints, still_enough, last_prints, start_lasts, refused_prints}
 use Rattle.printer.specs.Written.{AppendsFront, all_lines}
 use Rattle.printer.proofs.Fronts.{behind, longer}
@@ -69,9 +69,12 @@ module _ {file : List ℕ} {r : Run} {a b : Option (List ℕ)} (before : OnTheWa
         subst (AppendsFront a c) follows.whole (behind a b c before.lines _ before.written (longer b c (shown e.text) _ part))
 
   -- And the last line, where no record is left.
-  module _ {last : Text} (past : length file ≤ r.at) (shows : Shows (last_line r.state) last) where
+  module _ {end : Run} {last : Text} (over : Advances file r None end) (shows : Shows (last_line end.state) last) where
     whole_then : before.lines ++ shown last ≡ all_lines file
-    whole_then = ap (λ (l : List ℕ). before.lines ++ l) (shows ∙ sym (last_prints file r past before.tries)) ∙ before.whole
+    whole_then =
+        ap (λ (l : List ℕ). before.lines ++ l)
+        (shows ∙ ap (λ (stopped : Run). last_line stopped.state) over.1 ∙ sym (last_prints file r over.0 before.tries))
+        ∙ before.whole
 
     pub at_end : (c : Option (List ℕ)) → Appends b c (shown last) → Appends a c (all_lines file)
     at_end c line = subst (Appends a c) whole_then (Appends-trans a b c _ _ before.written line)

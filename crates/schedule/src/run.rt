@@ -35,8 +35,8 @@ impl Run {
         }
     }
 
-    // Makes the call of the next record, and gives what the event prints, empty if nothing. Past the last record nothing happens. The
-    // event number is kept in 32 bits: a file that is not refused has fewer events by far.
+    // Makes the call of the next record, and gives what the event prints, empty if nothing. Past the last record nothing happens, and
+    // None is given. The event number is kept in 32 bits: a file that is not refused has fewer events by far.
     #[tactic(auto, using(crate::specs::Events::moves))]
     pub fn advance(&mut self, file: &[u8]) -> Option<Text>
         ensures { Advances file.now self.old result self.new }
@@ -52,7 +52,7 @@ impl Run {
     }
 }
 
-// The same for a run that is handed on by value. Past the last record it stays as it is, and nothing is printed.
+// The same of a run by value. Past the last record it is given back as it was, and nothing is printed.
 #[tactic(auto, using(crate::specs::Events::moves))]
 pub fn next_event(file: &[u8], run: Run) -> Event
     ensures { Happens file.now run result }

@@ -1,5 +1,5 @@
 -- One event more is on its way, the last line makes the lines whole, and a write that stops leaves a first part of them.
-use Rattle.std.proofs.Common.{◌<◌, length, arith, sym, subst}
+use Rattle.std.proofs.Common.{arith, sym, subst}
 use Rattle.std.proofs.lemmas.Result.{on_ok_weaker, on_err_weaker}
 use Rattle.schedule.specs.declared.run.Run.{Run}
 use Rattle.schedule.specs.Events.{next_later}
@@ -29,8 +29,8 @@ returns-in_err-show-clause-stopped g c =
 
 pub returns-clause-written : goal.returns-clause-written
 returns-clause-written g c =
-    on_ok_weaker c.show-2.result (λ told accepted. at_end (c.loop-text.invariant accepted) c.in_default.ensures.0 c.last_line.ensures _ told) c.show-2.ensures.written
+    on_ok_weaker c.show-2.result (λ told accepted. at_end (c.loop-text.invariant accepted) c.in_default.ensures c.last_line.ensures _ told) c.show-2.ensures.written
 
 pub returns-clause-stopped : goal.returns-clause-stopped
 returns-clause-stopped g c =
-    on_err_weaker c.show-2.result (λ part accepted. stopped_at_end (c.loop-text.invariant accepted) c.in_default.ensures.0 c.last_line.ensures _ part) c.show-2.ensures.stopped
+    on_err_weaker c.show-2.result (λ part accepted. stopped_at_end (c.loop-text.invariant accepted) c.in_default.ensures c.last_line.ensures _ part) c.show-2.ensures.stopped
