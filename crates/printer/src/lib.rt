@@ -25,8 +25,8 @@ fn run_events<W: Write>(out: &mut W, file: &[u8]) -> io::Result<()>
     ensures written { OnOk result (file_verdict file.now ≡ Ok tt → Appends (W.contents out.old) (W.contents out.new) (all_lines file.now)) }
     ensures stopped { OnErr result (file_verdict file.now ≡ Ok tt → AppendsFront (W.contents out.old) (W.contents out.new) (all_lines file.now)) }
 {
-    let mut run = Run::start(file);
-    while let Some(text) = run.next_event() {
+    let mut run = Run::start();
+    while let Some(text) = run.advance(file) {
         show(out, &text)?;
     }
     show(out, &schedule::last_line(run.state))

@@ -1,6 +1,8 @@
+pub mod Padded
 pub mod Shown
-pub mod Events
 pub mod Digits
+pub mod Lines
 pub mod Rows
+pub mod Events
 pub mod Whole
 pub mod OneOutcome

@@ -11,5 +11,5 @@ mod run;
 mod text;
 
 pub use printed::{heading, last_line, refused_file};
-pub use run::Run;
+pub use run::{Event, Run, next_event};
 pub use text::Text;
