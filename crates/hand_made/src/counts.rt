@@ -1,10 +1,21 @@
 // Counts over lent rows: of a catalogue's, through `lent::count_of`, and of other numbers of rows than 128.
 
+ghost use Rattle.std.specs.Prelude.{◌≤◌, ◌≡◌, take};
+ghost use Rattle.model.specs.Count.{count};
+
 use crate::show::Shown;
 use crate::states::{DELETE, added, after, asked, linked, with_row};
 use lent::{count, count_of};
 use model::{Catalogue, Refusal, Row, Standing, free_row};
 use std::io;
+
+// The first n of these rows are lent.
+fn count_first(rows: &[Row; 129], n: usize) -> Result<u32, Refusal>
+    requires { n ≤ 129 }
+    ensures { result ≡ count (take n rows.now) }
+{
+    count(&rows[..n])
+}
 
 fn show_count(rt: &impl Print, name: &str, counted: Result<u32, Refusal>) -> io::Result<()> {
     let verdict = Shown(counted.map(|_| ()));
@@ -41,10 +52,10 @@ fn show_numbers_of_rows(rt: &impl Print) -> io::Result<()> {
     rows[0] = linked(0, 2);
     rows[1] = linked(0, 0);
     rows[2] = linked(5, 1);
-    show_count(rt, "no rows", count(&rows[..0]))?;
-    show_count(rt, "127 rows", count(&rows[..127]))?;
-    show_count(rt, "128 rows", count(&rows[..128]))?;
-    show_count(rt, "129 rows", count(&rows))
+    show_count(rt, "no rows", count_first(&rows, 0))?;
+    show_count(rt, "127 rows", count_first(&rows, 127))?;
+    show_count(rt, "128 rows", count_first(&rows, 128))?;
+    show_count(rt, "129 rows", count_first(&rows, 129))
 }
 
 pub fn show(rt: &impl Print, p7: Catalogue, p8: Catalogue) -> io::Result<()> {
