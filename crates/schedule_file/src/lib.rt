@@ -17,10 +17,11 @@ fn records_fit(body: &[u8]) -> bool
 {
     let mut records = body;
     while let Some((&n, rest)) = records.split_first() {
-        match (n, rest.get(usize::from(n)..)) {
-            (1 | 10, Some(left)) => records = left,
+        records = match (n, rest) {
+            (1, [_, left @ ..]) => left,
+            (10, [_, _, _, _, _, _, _, _, _, _, left @ ..]) => left,
             _ => return false,
-        }
+        };
     }
     true
 }
