@@ -6,10 +6,8 @@ use native.Mathlib.Omega.{arith}
 use Rattle.model.specs.State.{worker_at, idle}
 use Rattle.model.specs.Step.{step_worker}
 use Rattle.model.specs.Turn.{turn_ends, turn_from}
-use Rattle.model.specs.declared.Worker.{Worker}
 use Rattle.model.specs.declared.Catalogue.{Catalogue}
 use Rattle.model.specs.declared.Stepped.{Stepped}
-use Rattle.model.specs.declared.Turned.{Turned}
 use Rattle.model.specs.declared.Refusal.{Refusal}
 use Rattle.model.specs.Verdict.{Verdict}
 use Rattle.model.proofs.Refusals.{step_worker_unchanged}
@@ -17,10 +15,6 @@ use Rattle.model.proofs.Refusals.{step_worker_unchanged}
 -- the turn of a budget is that of the budget less 0
 pub turn_start : (w b : ℕ) (c : Catalogue) → turn_from w b 0 c ≡ turn_from w (b - 0) 0 c
 turn_start w b c = rw sub-zero
-
--- the end of a turn with this record, whosever it is
-abbrev pub ends : Verdict → ℕ → Catalogue → Worker → Turned
-ends v n c k = record { verdict = v; steps = n; state = c; lent = k }
 
 module _ (w b n : ℕ) (c : Catalogue) where
   left : n < b → b - n ≡ suc (b - (n + 1))

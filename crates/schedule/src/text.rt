@@ -61,7 +61,7 @@ impl Text {
     }
 
     // One byte more, for which there must be room.
-    pub fn push(&mut self, b: u8)
+    pub(crate) fn push(&mut self, b: u8)
         requires { length self.old < 48 }
         ensures { self.new ≡ self.old ++ b ∷ [] }
     {

@@ -1,3 +1,4 @@
+-- And behind the bytes that are put.
 use Rattle.std.proofs.Common.{ap, length}
 use Rattle.schedule.proofs.Longer.{appended}
 use Rattle.schedule.proofs.text.put.Goals as goal

@@ -1,3 +1,4 @@
+-- Zeros stand behind one byte more.
 use Rattle.schedule.proofs.Longer.{pushed}
 use Rattle.schedule.proofs.text.Text.push.Goals as goal
 
